@@ -1,0 +1,3 @@
+mod AsAsked
+mod Places
+mod Weekdays

@@ -1,0 +1,7 @@
+mod Cuts
+mod Decimals
+mod Fills
+mod Headers
+mod Marks
+mod Openings
+mod Readers

@@ -1,0 +1,28 @@
+use mathlib.Core.Path.{_≡_, refl, sym, ap, _∙_}
+use Prim.Native.Nat.{_+_}
+use native.Mathlib.Omega.{arith}
+use lib.ListN.{length, drop}
+use Rattle.std.specs.declared.option.Option.the-variants.{Some}
+use Rattle.sheet.specs.Pieces.{lines, first, rest}
+use Rattle.sheet.proofs.Cuts.{lines-at, no-lines-at}
+use Rattle.sheet.proofs.reader.Lines.next_line.Needs as need
+
+pub returns-then-self : need.returns-then-self
+returns-then-self c =
+    let self = c .args .self .now in
+    let none = no-lines-at (self .sheet .now) (self .place) (c .if-self .taken) in
+    record { sheet = refl; line = sym (ap first none); left = none ∙ sym (ap rest none); part = tt; count = omega arith }
+
+pub returns : need.returns
+returns c =
+    let self = c .args .self .now in
+    let s = self .sheet .now in
+    let at = lines-at s (self .place) (c .if-self .left) in
+    let value = c .piece-line .ensures .value in
+    record {
+      sheet = refl;
+      line = ap Some value ∙ sym (ap first at);
+      left = ap (λ l. lines (drop (self .place + length l + 1) s)) value ∙ sym (ap rest at);
+      part = c .piece-line .ensures .part;
+      count = refl;
+    }

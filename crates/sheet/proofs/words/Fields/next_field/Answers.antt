@@ -1,0 +1,22 @@
+use mathlib.Core.Path.{_≡_, refl, sym, ap, _∙_}
+use Prim.Native.Nat.{_+_}
+use lib.ListN.{length}
+use Rattle.std.specs.declared.option.Option.the-variants.{Some}
+use Rattle.sheet.specs.Pieces.{first, rest}
+use Rattle.sheet.specs.Told.{words-from}
+use Rattle.sheet.specs.Words.{word}
+use Rattle.sheet.proofs.Cuts.{words-at}
+use Rattle.sheet.proofs.words.Fields.next_field.Needs as need
+
+pub returns : need.returns
+returns c =
+    let self = c .args .self .now in
+    let l = self .line .now in
+    let column = self .place + 1 in
+    let at = words-at l (self .place) (c .if-self .left) in
+    let value = c .piece-bytes .ensures .value in
+    record {
+      line = refl;
+      field = ap Some (c .read-field .ensures ∙ ap (λ bs. word (column, bs)) value) ∙ sym (ap first at);
+      left = ap (λ bs. words-from l (column + length bs)) value ∙ sym (ap rest at);
+    }
