@@ -5,3 +5,4 @@ pub mod Faults
 pub mod Header
 pub mod Told
 pub mod Steps
+pub mod Texts

@@ -3,8 +3,8 @@ use mathlib.Core.Path.{_≡_}
 use mathlib.Core.Bool.{cond}
 use mathlib.Core.List.{List, [], _∷_}
 use Prim.Native.Nat.{ℕ, suc, _+_}
-use lib.Dec.{eqb}
-use lib.ListN.{take, drop}
+use lib.Dec.{eqb, ltb}
+use lib.ListN.{length, take, drop}
 use denote.Ref.{RefT}
 use Rattle.std.specs.declared.option.Option.{Option}
 use Rattle.std.specs.declared.option.Option.the-variants.{Some, None}
@@ -55,6 +55,10 @@ before end (b ∷ bs) = cond (eqb b end) 0 (suc (before end bs))
 -- the bytes from place p up to the next `end`
 abbrev pub piece-at : ℕ → List ℕ → ℕ → List ℕ
 piece-at end bs p = take (before end (drop p bs)) (drop p bs)
+
+-- where the line after the one at place p begins: past its byte 10, even where the last line lacks it
+abbrev pub line-end : List ℕ → ℕ → ℕ
+line-end sheet p = cond (ltb p (length sheet)) (p + length (piece-at 10 sheet p) + 1) p
 
 -- l is that very part of s, in memory, which begins at place p
 abbrev pub PartAt : RefT (List ℕ) → ℕ → RefT (List ℕ) → Type 0

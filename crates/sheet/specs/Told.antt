@@ -1,9 +1,10 @@
 -- What the readers and their results stand for.
 use mathlib.Core.Bool.{cond}
 use mathlib.Core.List.{List, [], map}
-use Prim.Native.Nat.{ℕ, _+_}
+use Prim.Native.Nat.{ℕ, _+_, _-_}
 use lib.Dec.{leb}
 use lib.ListN.{length, take, drop}
+use denote.Ref.{RefT}
 use Rattle.std.specs.declared.result.Result.{Result}
 use Rattle.std.specs.declared.result.Result.the-variants.{Ok, Err}
 use Rattle.sheet.specs.declared.fault.Refusal.{Refusal}
@@ -16,7 +17,7 @@ use Rattle.sheet.specs.declared.words.Field.{Field}
 use Rattle.sheet.specs.declared.words.Field.the-variants.{Letter, Number, Bad}
 use Rattle.sheet.specs.declared.words.Fields.{Fields}
 use Rattle.sheet.specs.Header.{Asked}
-use Rattle.sheet.specs.Pieces.{lines, parts}
+use Rattle.sheet.specs.Pieces.{lines, parts, PartAt}
 use Rattle.sheet.specs.Words.{Word, letter, number, bad, columns, word}
 
 -- the lines that a reader has not yet handed out
@@ -28,6 +29,12 @@ abbrev pub told : Field → Word
 told (Letter c b) = letter c b
 told (Number c n) = number c n
 told (Bad c r) = bad c (r .now)
+
+-- a bad field is that very part of the line which begins in its column
+abbrev pub Borrows : RefT (List ℕ) → Field → Type 0
+Borrows line (Letter c b) = Unit {0}
+Borrows line (Number c n) = Unit {0}
+Borrows line (Bad c r) = PartAt line (c - 1) r
 
 -- the fields of a line from place p on; none past its end
 abbrev pub words-from : List ℕ → ℕ → List Word

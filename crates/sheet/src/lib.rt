@@ -4,6 +4,7 @@ pub mod decimal;
 pub mod fault;
 pub mod opening;
 pub mod reader;
+pub mod reply;
 pub mod values;
 pub mod words;
 

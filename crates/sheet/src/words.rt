@@ -1,10 +1,12 @@
 ghost use mathlib.Core.Path.{_≡_};
-ghost use Prim.Native.Nat.{_+_, _≤_};
+ghost use Prim.Native.Nat.{ℕ, _+_, _-_, _≤_};
+ghost use denote.Ref.{RefT};
+ghost use mathlib.Core.List.{List};
 ghost use lib.ListN.{length};
 ghost use Rattle.std.specs.Options.{mapped};
 ghost use Rattle.std.specs.Slices.{found};
-ghost use Rattle.sheet.specs.Pieces.{parts, first, rest};
-ghost use Rattle.sheet.specs.Told.{told, fields-left};
+ghost use Rattle.sheet.specs.Pieces.{parts, first, rest, PartAt};
+ghost use Rattle.sheet.specs.Told.{told, fields-left, Borrows};
 ghost use Rattle.sheet.specs.Words.{letter-of, word, words, headed, fits};
 use crate::cut::piece;
 use crate::decimal::number;
@@ -58,7 +60,8 @@ fn letter(bytes: &[u8]) -> Option<u8>
 
 // The field that begins in a column: in the first a letter, in any later one a number.
 fn read_field<'a>(column: usize, bytes: &'a [u8]) -> Field<'a>
-    ensures { λ r. ⌜ told r ≡ word (column, now (bytes .entry)) ⌝ }
+    ensures value { λ r. ⌜ told r ≡ word (column, now (bytes .entry)) ⌝ }
+    ensures part { λ r. ⌜ ((line : RefT (List ℕ)) → PartAt line (column - 1) (bytes .entry) → Borrows line r) ⌝ }
 {
     if column == 1 {
         match letter(bytes) {
@@ -99,6 +102,7 @@ impl<'a> Fields<'a> {
     pub fn next_field(&mut self) -> Option<Field<'a>>
         ensures line { λ _. ⌜ now (self .exit) .line ≡ now (self .entry) .line ⌝ }
         ensures field { λ r. ⌜ mapped told r ≡ first (fields-left (now (self .entry))) ⌝ }
+        ensures part { λ r. ⌜ found r (λ f. Borrows (now (self .entry) .line) f) ⌝ }
         ensures left { λ _. ⌜ fields-left (now (self .exit)) ≡ rest (fields-left (now (self .entry))) ⌝ }
     {
         if self.place > self.line.len() {

@@ -3,7 +3,7 @@ ghost use mathlib.Core.Bool.{cond};
 ghost use Prim.Native.Nat.{_+_};
 ghost use Rattle.std.specs.Options.{isSome, mapped};
 ghost use Rattle.std.specs.Slices.{found};
-ghost use Rattle.sheet.specs.Pieces.{lines, first, rest, PartAt};
+ghost use Rattle.sheet.specs.Pieces.{first, rest, line-end, PartAt};
 ghost use Rattle.sheet.specs.Told.{lines-left};
 use super::Lines;
 use crate::cut::piece;
@@ -34,6 +34,7 @@ impl<'a> Lines<'a> {
         ensures sheet { λ _. ⌜ now (self .exit) .sheet ≡ now (self .entry) .sheet ⌝ }
         ensures line { λ r. ⌜ mapped (λ l. l .now) r ≡ first (lines-left (now (self .entry))) ⌝ }
         ensures left { λ _. ⌜ lines-left (now (self .exit)) ≡ rest (lines-left (now (self .entry))) ⌝ }
+        ensures place { λ _. ⌜ now (self .exit) .place ≡ line-end (now (now (self .entry) .sheet)) (now (self .entry) .place) ⌝ }
         ensures part { λ r. ⌜ found r (λ l. PartAt (now (self .entry) .sheet) (now (self .entry) .place) l) ⌝ }
         ensures count { λ r. ⌜ now (self .exit) .count ≡ now (self .entry) .count + cond (isSome r) 1 0 ⌝ }
     {

@@ -1,5 +1,6 @@
 use mathlib.Core.Path.{_≡_, refl, sym, ap, _∙_}
-use Prim.Native.Nat.{_+_}
+use Prim.Native.Nat.{ℕ, _+_, _-_}
+use native.Mathlib.Omega.{arith}
 use lib.ListN.{length}
 use Rattle.std.specs.declared.option.Option.the-variants.{Some}
 use Rattle.sheet.specs.Pieces.{first, rest}
@@ -7,6 +8,9 @@ use Rattle.sheet.specs.Told.{words-from}
 use Rattle.sheet.specs.Words.{word}
 use Rattle.sheet.proofs.Cuts.{words-at}
 use Rattle.sheet.proofs.words.Fields.next_field.Needs as need
+
+one-back : (a p : ℕ) → a + p ≡ a + (p + 1 - 1)
+one-back a p = omega arith
 
 pub returns : need.returns
 returns c =
@@ -17,6 +21,7 @@ returns c =
     let value = c .piece-bytes .ensures .value in
     record {
       line = refl;
-      field = ap Some (c .read-field .ensures ∙ ap (λ bs. word (column, bs)) value) ∙ sym (ap first at);
+      field = ap Some (c .read-field .ensures .value ∙ ap (λ bs. word (column, bs)) value) ∙ sym (ap first at);
+      part = c .read-field .ensures .part (self .line) (c .piece-bytes .ensures .part .0, c .piece-bytes .ensures .part .1 ∙ one-back _ (self .place));
       left = ap (λ bs. words-from l (column + length bs)) value ∙ sym (ap rest at);
     }
