@@ -18,6 +18,15 @@ pub use list::calls::ListedCalendar;
 pub use week::Weekly;
 pub use week::calls::WeeklyCalendar;
 
+// The most orders that any day takes.
+pub const MOST: u16 = 512;
+
+// The most pairs of a listed calendar, one for each day from 0 to 65,535.
+pub const LISTED_PAIRS: usize = 65536;
+
+// The most closed runs of a layer.
+pub const CLOSED_RUNS: usize = 16;
+
 // A pair (fewest, most) for every day from 0 to 65,535.
 pub trait Calendar {
     // the pair of each day

@@ -1,6 +1,7 @@
 ghost use mathlib.Core.Path.{_≡_};
 ghost use Rattle.calendar.specs.Pairs.{bad-row};
 ghost use Rattle.calendar.specs.Checks.{rows-check};
+use crate::MOST;
 use crate::fault::CalendarFault;
 
 // The first row that is no pair of a fewest and a most.
@@ -9,7 +10,7 @@ fn first_bad_row(rows: &[(u16, u16)]) -> Option<usize>
 {
     for (i, row) in rows.iter().enumerate() {
         let (fewest, most) = *row;
-        if fewest > most || most > 512 {
+        if fewest > most || most > MOST {
             return Some(i);
         }
     }

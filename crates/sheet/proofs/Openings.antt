@@ -4,12 +4,14 @@ use mathlib.Core.List.{List, [], _∷_, _++_}
 use Prim.Native.Nat.{ℕ, suc, _-_, _/_, _≤_}
 use native.Mathlib.Nat.{sub-zero}
 use native.Mathlib.Omega.{arith}
-use lib.ListN.{length, take, drop}
+use lib.ListN.{length, getD, take, drop}
 use Rattle.std.specs.declared.result.Result.{Result}
 use Rattle.std.specs.declared.result.Result.the-variants.{Ok, Err}
+use Rattle.std.specs.Holes.{between}
 use Rattle.std.specs.Results.{ErrBy}
 use Rattle.std.proofs.shelf.Results.{err-from-errBy}
-use Rattle.std.proofs.shelf.Lists.{append-nil, drop-all, take-at}
+use Rattle.std.proofs.shelf.Lists.{append-nil, drop-all, take-at, length-take, length-drop}
+use Rattle.std.proofs.shelf.Parts.{first-rest}
 use Rattle.calendar.specs.Checks.{Verdict, weekly-check, closing-check}
 use Rattle.calendar.specs.declared.fault.CalendarFault.{CalendarFault}
 use Rattle.sheet.specs.declared.fault.SheetFault.{SheetFault}
@@ -30,20 +32,26 @@ values-length (letter c b ∷ ws) ns e = absurd (let z : _≡_ {A = ℕ} 0 1 = c
 values-length (number c n ∷ ws) ns e = first-length n (values ws) ns (length ws) (values-length ws) e
 values-length (bad c bs ∷ ws) ns e = absurd (let z : _≡_ {A = ℕ} 0 1 = cc in omega arith)
 
--- a list that is written over whole
-pub rows-are : (ns : List ℕ) (zs : List (ℕ × ℕ)) → length zs ≤ length ns / 2 → in-pairs ns ++ drop (length (in-pairs ns)) zs ≡ in-pairs ns
-rows-are ns zs h =
-    ap (λ r. in-pairs ns ++ r) (drop-all (length (in-pairs ns)) zs (omega (arith, length-in-pairs ns))) ∙ append-nil (in-pairs ns)
+-- what fifteen numbers are checked for, once seven pairs of them are written over a list of seven
+pub week-is : (ns : List ℕ) (zs rows : List (ℕ × ℕ)) → length ns ≡ 15 → length zs ≡ 7 → (let rest = between 1 (length ns) ns in rows ≡ in-pairs rest ++ drop (length (in-pairs rest)) zs) → week-from ns ≡ and-then (map-err Calendar (weekly-check rows (getD ns 0 0))) (λ _. Ok (getD ns 0 0, rows))
+week-is ns zs rows fifteen seven written =
+    ap week-from (first-rest ns 0 (omega arith))
+    ∙ ap (λ ps. and-then (map-err Calendar (weekly-check ps (getD ns 0 0))) (λ _. Ok (getD ns 0 0, ps))) (sym all)
+  where
+    all : rows ≡ in-pairs (between 1 (length ns) ns)
+    all =
+        let rest = between 1 (length ns) ns in
+        let long : length rest ≡ 14 = simp (length-take, length-drop) (omega arith) in
+        written ∙ ap (λ r. in-pairs rest ++ r) (drop-all (length (in-pairs rest)) zs (omega (arith, long, length-in-pairs rest))) ∙ append-nil (in-pairs rest)
 
-pub week-is : (ns rest : List ℕ) (w : ℕ) (rows : List (ℕ × ℕ)) → ns ≡ w ∷ rest → rows ≡ in-pairs rest → week-from ns ≡ and-then (map-err Calendar (weekly-check rows w)) (λ _. Ok (w, rows))
-week-is ns rest w rows e f = ap week-from e ∙ ap (λ ps. and-then (map-err Calendar (weekly-check ps w)) (λ _. Ok (w, ps))) (sym f)
-
-pub runs-are : (ns : List ℕ) (zs : List (ℕ × ℕ)) → take (length ns / 2 - 0) (in-pairs ns ++ drop (length (in-pairs ns)) zs) ≡ in-pairs ns
-runs-are ns zs =
-    take-at (in-pairs ns) (drop (length (in-pairs ns)) zs) (length ns / 2 - 0) (length-in-pairs ns ∙ sym (sub-zero (length ns / 2)))
-
-pub runs-is : (ns : List ℕ) (runs : List (ℕ × ℕ)) → runs ≡ in-pairs ns → runs-from ns ≡ and-then (map-err Calendar (closing-check runs)) (λ _. Ok runs)
-runs-is ns runs f = ap (λ ps. and-then (map-err Calendar (closing-check ps)) (λ _. Ok ps)) (sym f)
+-- what numbers are checked for, once their pairs are written at the front of a list
+pub runs-is : (ns : List ℕ) (zs all : List (ℕ × ℕ)) → all ≡ in-pairs ns ++ drop (length (in-pairs ns)) zs → (let runs = take (length ns / 2 - 0) all in runs-from ns ≡ and-then (map-err Calendar (closing-check runs)) (λ _. Ok runs))
+runs-is ns zs all written = ap (λ ps. and-then (map-err Calendar (closing-check ps)) (λ _. Ok ps)) (sym are)
+  where
+    are : take (length ns / 2 - 0) all ≡ in-pairs ns
+    are =
+        ap (take (length ns / 2 - 0)) written
+        ∙ take-at (in-pairs ns) (drop (length (in-pairs ns)) zs) (length ns / 2 - 0) (length-in-pairs ns ∙ sym (sub-zero (length ns / 2)))
 
 -- what the calendar's check refuses is refused with its fault
 pub refuses : {A B : Type 0} (g : B → A) (x : A) (v : Verdict) (r : Result B SheetFault) (f : CalendarFault) → v ≡ Err f → ErrBy r (λ e. e ≡ Calendar f) → map-ok g r ≡ and-then (map-err Calendar v) (λ _. Ok x)

@@ -8,6 +8,7 @@ ghost use Rattle.calendar.specs.Pairs.{bad-run, in-runs, closed};
 ghost use Rattle.calendar.specs.Sound.{sound-closed};
 ghost use Rattle.calendar.specs.Told.{runs-of, below-of};
 use super::Closing;
+use crate::CLOSED_RUNS;
 use crate::Calendar;
 use crate::fault::CalendarFault;
 
@@ -25,11 +26,11 @@ fn first_bad_run(runs: &[(u16, u16)]) -> Option<usize>
 }
 
 // The runs at the front of sixteen.
-fn at_front(runs: &[(u16, u16)]) -> [(u16, u16); 16]
+fn at_front(runs: &[(u16, u16)]) -> [(u16, u16); CLOSED_RUNS]
     requires { ⌜ length (now runs) ≤ 16 ⌝ }
     ensures { λ r. ⌜ take (length (now (runs .entry))) r ≡ now (runs .entry) ⌝ }
 {
-    let mut all = [(0, 0); 16];
+    let mut all = [(0, 0); CLOSED_RUNS];
     let n = runs.len();
     all[0..n].copy_from_slice(runs);
     all
@@ -53,7 +54,7 @@ impl<C> Closing<C> {
     pub fn check(runs: &[(u16, u16)]) -> Result<(), CalendarFault>
         ensures { λ r. ⌜ r ≡ closing-check (now (runs .entry)) ⌝ }
     {
-        if runs.len() > 16 {
+        if runs.len() > CLOSED_RUNS {
             return Err(CalendarFault::TooManyRuns);
         }
         match first_bad_run(runs) {
@@ -73,7 +74,7 @@ impl<C: Calendar> Closing<C> {
         let Ok(()) = Closing::<C>::check(runs) else {
             return Closing {
                 below,
-                runs: [(0, 0); 16],
+                runs: [(0, 0); CLOSED_RUNS],
                 count: 0,
             };
         };

@@ -8,6 +8,7 @@ ghost use Rattle.calendar.specs.Sound.{sound-row};
 ghost use Rattle.calendar.specs.Told.{listed-told};
 use super::Listed;
 use crate::Calendar;
+use crate::LISTED_PAIRS;
 use crate::fault::CalendarFault;
 use crate::rows::check_rows;
 
@@ -16,7 +17,7 @@ impl<'a> Listed<'a> {
     pub fn check(rows: &[(u16, u16)]) -> Result<(), CalendarFault>
         ensures { λ r. ⌜ r ≡ listed-check (now (rows .entry)) ⌝ }
     {
-        if rows.len() > 65536 {
+        if rows.len() > LISTED_PAIRS {
             return Err(CalendarFault::TooManyPairs);
         }
         check_rows(rows)
