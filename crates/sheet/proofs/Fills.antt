@@ -5,7 +5,7 @@ use Prim.Native.Nat.{ℕ, zero, suc, _+_, _*_, _/_, _≤_, _<_}
 use native.Mathlib.Omega.{arith}
 use lib.ListN.{length, getD, take, drop, set}
 use Rattle.std.proofs.shelf.Lists.{append-assoc, set-at, take-more, drop-more, length-take-le}
-use Rattle.sheet.specs.Words.{in-pairs}
+use Rattle.sheet.specs.Header.{in-pairs}
 
 pub length-in-pairs : (ns : List ℕ) → length (in-pairs ns) ≡ length ns / 2
 length-in-pairs [] = refl

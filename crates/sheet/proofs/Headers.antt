@@ -14,9 +14,10 @@ use Rattle.calendar.specs.declared.layer.Closing.{Closing}
 use Rattle.calendar.specs.Told.{week-of, runs-of, below-of}
 use Rattle.sheet.specs.declared.fault.SheetFault.{SheetFault}
 use Rattle.sheet.specs.declared.fault.Refusal.{Refusal}
-use Rattle.sheet.specs.Faults.{refused-at, map-ok, map-err, and-then}
+use Rattle.reading.specs.Results.{map-ok, map-err, and-then}
+use Rattle.sheet.specs.Faults.{refused-at}
 use Rattle.sheet.specs.Header.{Asked, mark-line, week-line, runs-line, on-line, opened}
-use Rattle.sheet.specs.Pieces.{first, rest}
+use Rattle.reading.specs.Pieces.{first, rest}
 use Rattle.sheet.specs.Told.{lines-read, asked-of}
 
 drop-one : {A : Type 0} (xs : List A) → drop 1 xs ≡ rest xs

@@ -1,7 +1,4 @@
-mod Cuts
-mod Decimals
 mod Fills
 mod Headers
 mod Marks
 mod Openings
-mod Readers

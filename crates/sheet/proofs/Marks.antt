@@ -13,8 +13,8 @@ use Rattle.std.specs.declared.option.Option.the-variants.{Some, None}
 use Rattle.std.proofs.shelf.Tests.{true≢false, and-parts, eqb-true, eqb-false, leb-true, not-true}
 use Rattle.std.proofs.shelf.Ways.{tells}
 use Rattle.sheet.specs.Header.{marked, version-of}
-use Rattle.sheet.specs.Numbers.{digit, digits, value, unfit, numeral, number-of}
-use Rattle.sheet.proofs.Decimals.{value-grows}
+use Rattle.reading.specs.Numbers.{digit, digits, value, unfit, numeral, number-of}
+use Rattle.reading.proofs.Decimals.{value-grows}
 
 some-of : (b : Bool) (n m : ℕ) → cond b (Some n) None ≡ Some m → (b ≡ true) × (n ≡ m)
 some-of true n m e = (refl, let same : n ≡ m = cc in same)

@@ -16,21 +16,9 @@ use Rattle.calendar.specs.Checks.{Verdict, weekly-check, closing-check}
 use Rattle.calendar.specs.declared.fault.CalendarFault.{CalendarFault}
 use Rattle.sheet.specs.declared.fault.SheetFault.{SheetFault}
 use Rattle.sheet.specs.declared.fault.SheetFault.the-variants.{Calendar}
-use Rattle.sheet.specs.Faults.{map-ok, map-err, and-then}
-use Rattle.sheet.specs.Header.{week-from, runs-from}
-use Rattle.sheet.specs.Words.{Word, letter, number, bad, with-first, values, in-pairs}
+use Rattle.reading.specs.Results.{map-ok, map-err, and-then}
+use Rattle.sheet.specs.Header.{in-pairs, week-from, runs-from}
 use Rattle.sheet.proofs.Fills.{length-in-pairs}
-
-first-length : (n : ℕ) (r : Result (List ℕ) ℕ) (ns : List ℕ) (m : ℕ) → ((ms : List ℕ) → r ≡ Ok ms → length ms ≡ m) → with-first n r ≡ Ok ns → length ns ≡ suc m
-first-length n (Ok ms) ns m h e = let same : n ∷ ms ≡ ns = cc in sym (ap length same) ∙ ap suc (h ms refl)
-first-length n (Err c) ns m h e = absurd (let z : _≡_ {A = ℕ} 0 1 = cc in omega arith)
-
--- each field gives one number
-pub values-length : (ws : List Word) (ns : List ℕ) → values ws ≡ Ok ns → length ns ≡ length ws
-values-length [] ns e = let same : [] ≡ ns = cc in sym (ap length same)
-values-length (letter c b ∷ ws) ns e = absurd (let z : _≡_ {A = ℕ} 0 1 = cc in omega arith)
-values-length (number c n ∷ ws) ns e = first-length n (values ws) ns (length ws) (values-length ws) e
-values-length (bad c bs ∷ ws) ns e = absurd (let z : _≡_ {A = ℕ} 0 1 = cc in omega arith)
 
 -- what fifteen numbers are checked for, once seven pairs of them are written over a list of seven
 pub week-is : (ns : List ℕ) (zs rows : List (ℕ × ℕ)) → length ns ≡ 15 → length zs ≡ 7 → (let rest = between 1 (length ns) ns in rows ≡ in-pairs rest ++ drop (length (in-pairs rest)) zs) → week-from ns ≡ and-then (map-err Calendar (weekly-check rows (getD ns 0 0))) (λ _. Ok (getD ns 0 0, rows))

@@ -2,9 +2,9 @@
 use Prim.Native.Nat.{ℕ}
 use Rattle.std.specs.declared.option.Option.{Option}
 use Rattle.std.specs.declared.option.Option.the-variants.{Some, None}
-use Rattle.std.specs.declared.result.Result.{Result}
-use Rattle.std.specs.declared.result.Result.the-variants.{Ok, Err}
 use Rattle.calendar.specs.Faults as calendars
+use Rattle.reading.specs.declared.words.Unfit.{Unfit}
+use Rattle.reading.specs.declared.words.Unfit.the-variants as Unfit
 use Rattle.sheet.specs.declared.fault.SheetFault.{SheetFault}
 use Rattle.sheet.specs.declared.fault.SheetFault.the-variants.{TooLong, NoMark, BadLine, BadField, Missing, Calendar}
 use Rattle.sheet.specs.declared.fault.Refusal.{Refusal}
@@ -48,14 +48,7 @@ column-of (Calendar f) = 1
 abbrev pub refused-at : ℕ → SheetFault → Refusal
 refused-at n f = record { fault = f; line = n; column = column-of f }
 
-abbrev pub map-ok : {A B E : Type 0} → (A → B) → Result A E → Result B E
-map-ok f (Ok x) = Ok (f x)
-map-ok f (Err e) = Err e
-
-abbrev pub map-err : {A E F : Type 0} → (E → F) → Result A E → Result A F
-map-err f (Ok x) = Ok x
-map-err f (Err e) = Err (f e)
-
-abbrev pub and-then : {A B E : Type 0} → Result A E → (A → Result B E) → Result B E
-and-then (Ok x) f = f x
-and-then (Err e) f = Err e
+-- what the reading of a line's numbers refuses
+abbrev pub from-unfit : Unfit → SheetFault
+from-unfit Unfit.BadLine = BadLine
+from-unfit (Unfit.BadField c) = BadField c

@@ -10,13 +10,14 @@ use Rattle.std.specs.declared.result.Result.{Result}
 use Rattle.std.specs.declared.result.Result.the-variants.{Ok, Err}
 use Rattle.calendar.specs.Checks.{weekly-check, closing-check}
 use Rattle.sheet.specs.declared.fault.SheetFault.{SheetFault}
-use Rattle.sheet.specs.declared.fault.SheetFault.the-variants.{TooLong, NoMark, BadLine, BadField, Missing, Calendar}
-use Rattle.sheet.specs.declared.words.Count.the-variants.{Exactly, Even}
+use Rattle.sheet.specs.declared.fault.SheetFault.the-variants.{TooLong, NoMark, BadLine, Missing, Calendar}
+use Rattle.reading.specs.declared.words.Count.the-variants.{Exactly, Even}
 use Rattle.sheet.specs.declared.fault.Refusal.{Refusal}
-use Rattle.sheet.specs.Faults.{refused-at, map-ok, map-err, and-then}
-use Rattle.sheet.specs.Numbers.{number-of}
-use Rattle.sheet.specs.Pieces.{lines, first}
-use Rattle.sheet.specs.Words.{Word, headed, values, in-pairs, fits}
+use Rattle.reading.specs.Results.{map-err, and-then}
+use Rattle.reading.specs.Numbers.{number-of}
+use Rattle.reading.specs.Pieces.{lines, first}
+use Rattle.reading.specs.Words.{headed, fits, fitting}
+use Rattle.sheet.specs.Faults.{refused-at, from-unfit}
 
 -- whether the bytes `OVB` and a space come first
 abbrev pub marked : List ℕ → Bool
@@ -34,10 +35,11 @@ if-one (Some v) = cond (eqb v 1) (Ok tt) (Err NoMark)
 abbrev pub mark-line : List ℕ → Result (Unit {0}) SheetFault
 mark-line l = if-one (version-of l)
 
--- the numbers of a line that has the wanted letter first and a fitting number of fields after it
-abbrev pub fitting : ℕ → (ℕ → Bool) → Option (ℕ × List Word) → Result (List ℕ) SheetFault
-fitting wanted right None = Err BadLine
-fitting wanted right (Some h) = cond (eqb (h .0) wanted && right (length (h .1))) (map-err BadField (values (h .1))) (Err BadLine)
+-- numbers two by two
+abbrev pub in-pairs : List ℕ → List (ℕ × ℕ)
+in-pairs [] = []
+in-pairs (a ∷ []) = []
+in-pairs (a ∷ b ∷ ns) = (a, b) ∷ in-pairs ns
 
 -- the weekday of day 0 and the seven pairs, where the calendar's check accepts them
 abbrev pub week-from : List ℕ → Result (ℕ × List (ℕ × ℕ)) SheetFault
@@ -46,7 +48,7 @@ week-from (w ∷ ns) = and-then (map-err Calendar (weekly-check (in-pairs ns) w)
 
 -- line 2 is the letter W and fifteen numbers
 abbrev pub week-line : List ℕ → Result (ℕ × List (ℕ × ℕ)) SheetFault
-week-line l = and-then (fitting 87 (fits (Exactly 15)) (headed l)) week-from
+week-line l = and-then (map-err from-unfit (fitting 87 (fits (Exactly 15)) (headed l))) week-from
 
 -- the closed runs, where the calendar's check accepts them
 abbrev pub runs-from : List ℕ → Result (List (ℕ × ℕ)) SheetFault
@@ -54,7 +56,7 @@ runs-from ns = and-then (map-err Calendar (closing-check (in-pairs ns))) (λ _. 
 
 -- line 3 is the letter X and an even number of numbers
 abbrev pub runs-line : List ℕ → Result (List (ℕ × ℕ)) SheetFault
-runs-line l = and-then (fitting 88 (fits Even) (headed l)) runs-from
+runs-line l = and-then (map-err from-unfit (fitting 88 (fits Even) (headed l))) runs-from
 
 -- a line of the sheet, read; refused where the sheet ends before it
 abbrev pub on-line : {A : Type 0} → ℕ → Option (List ℕ) → (List ℕ → Result A SheetFault) → Result A Refusal

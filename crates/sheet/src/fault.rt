@@ -1,9 +1,10 @@
 ghost use mathlib.Core.Path.{_≡_};
 ghost use Rattle.sheet.specs.declared.fault.SheetFault.the-variants.{Calendar};
-ghost use Rattle.sheet.specs.Faults.{number-of, place-of, layer-of, refused-at};
+ghost use Rattle.sheet.specs.Faults.{number-of, place-of, layer-of, refused-at, from-unfit};
 use calendar::CalendarFault;
 use calendar::fault::CalendarFaultDebug;
 use calendar::fault::CalendarFaultPartialEq;
+use reading::Unfit;
 
 // Why a line of a sheet is refused.
 #[derive(Clone, Copy, PartialEq, Eq, Debug)]
@@ -35,6 +36,17 @@ pub impl From<CalendarFault> for SheetFault as SheetFromCalendar {
 
     fn from(fault: CalendarFault) -> SheetFault {
         SheetFault::Calendar(fault)
+    }
+}
+
+pub impl From<Unfit> for SheetFault as SheetFromUnfit {
+    ghost converts = { λ u r. r ≡ from-unfit u };
+
+    fn from(unfit: Unfit) -> SheetFault {
+        match unfit {
+            Unfit::BadLine => SheetFault::BadLine,
+            Unfit::BadField(column) => SheetFault::BadField(column),
+        }
     }
 }
 

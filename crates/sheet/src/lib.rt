@@ -1,15 +1,8 @@
-// A sheet's bytes: its lines, its fields, and the three lines that open it.
-mod cut;
-pub mod decimal;
+// A sheet: the three lines that open it, its faults and its replies.
 pub mod fault;
 pub mod opening;
-pub mod reader;
+mod pairs;
 pub mod reply;
-pub mod values;
-pub mod words;
 
 pub use fault::Refusal;
 pub use fault::SheetFault;
-pub use reader::Lines;
-pub use words::Field;
-pub use words::Fields;

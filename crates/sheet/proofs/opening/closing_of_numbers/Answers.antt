@@ -6,7 +6,7 @@ use Rattle.std.proofs.shelf.Results.{err-from-errBy}
 use Rattle.calendar.specs.Checks.{closing-check, kept-runs}
 use Rattle.calendar.specs.Told.{runs-of}
 use Rattle.sheet.specs.declared.fault.SheetFault.the-variants.{Calendar}
-use Rattle.sheet.specs.Faults.{map-err, and-then}
+use Rattle.reading.specs.Results.{map-err, and-then}
 use Rattle.sheet.proofs.Openings.{runs-is, refuses}
 use Rattle.sheet.proofs.opening.closing_of_numbers.Needs as need
 

@@ -2,10 +2,10 @@ use mathlib.Core.Path.{_≡_, sym, ap, _∙_}
 use lib.ListN.{drop}
 use Rattle.std.specs.declared.result.Result.the-variants.{Ok, Err}
 use Rattle.calendar.specs.Told.{week-of}
-use Rattle.sheet.specs.Faults.{and-then}
+use Rattle.reading.specs.Results.{and-then}
 use Rattle.sheet.specs.Header.{on-line, runs-line}
-use Rattle.sheet.specs.Pieces.{first, rest}
-use Rattle.sheet.specs.Told.{lines-left}
+use Rattle.reading.specs.Pieces.{first, rest}
+use Rattle.reading.specs.Told.{lines-left}
 use Rattle.sheet.proofs.Headers.{drop-three, third-decides, third-given, three-read}
 use Rattle.sheet.proofs.opening.open.Needs as need
 

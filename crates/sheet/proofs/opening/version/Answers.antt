@@ -4,7 +4,7 @@ use borrow.Author.Needs.{needs}
 use Rattle.std.proofs.shelf.Lists.{take-rest}
 use Rattle.std.proofs.shelf.Tests.{cond-true}
 use Rattle.sheet.specs.Header.{marked}
-use Rattle.sheet.specs.Numbers.{number-of}
+use Rattle.reading.specs.Numbers.{number-of}
 use Rattle.sheet.proofs.opening.version.Needs as need
 
 pub returns : need.returns

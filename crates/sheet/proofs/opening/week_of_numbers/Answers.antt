@@ -4,7 +4,7 @@ use Rattle.std.specs.declared.result.Result.the-variants.{Ok}
 use Rattle.calendar.specs.Checks.{weekly-check, kept-week}
 use Rattle.calendar.specs.Told.{week-of}
 use Rattle.sheet.specs.declared.fault.SheetFault.the-variants.{Calendar}
-use Rattle.sheet.specs.Faults.{map-err, and-then}
+use Rattle.reading.specs.Results.{map-err, and-then}
 use Rattle.sheet.proofs.Openings.{week-is, refuses}
 use Rattle.sheet.proofs.opening.week_of_numbers.Needs as need
 

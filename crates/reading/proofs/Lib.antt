@@ -1,0 +1,4 @@
+mod Cuts
+mod Lengths
+mod Readers
+pub mod Decimals
