@@ -1,10 +1,9 @@
 use mathlib.Core.Path.{_≡_, refl, sym, ap, _∙_}
 use Prim.Native.Nat.{_+_}
 use native.Mathlib.Omega.{arith}
-use lib.ListN.{length, drop}
-use Rattle.std.specs.declared.option.Option.the-variants.{Some}
+use lib.ListN.{length}
 use Rattle.std.proofs.shelf.Tests.{cond-true, cond-false, lt-ltb, le-ltb}
-use Rattle.reading.specs.Pieces.{lines, first, rest}
+use Rattle.reading.specs.Pieces.{first, rest, piece-at}
 use Rattle.reading.proofs.Cuts.{lines-at, no-lines-at}
 use Rattle.reading.proofs.reader.Lines.next_line.Needs as need
 
@@ -17,14 +16,9 @@ returns-then-self c =
 pub returns : need.returns
 returns c =
     let self = c .args .self .now in
-    let s = self .sheet .now in
-    let at = lines-at s (self .place) (c .if-self .left) in
+    let at = lines-at (self .sheet .now) (self .place) (c .if-self .left) in
+    let next = ap first at in
+    let later = ap rest at in
     let value = c .piece-line .ensures .value in
-    record {
-      sheet = refl;
-      line = ap Some value ∙ sym (ap first at);
-      left = ap (λ l. lines (drop (self .place + length l + 1) s)) value ∙ sym (ap rest at);
-      place = ap (λ l. self .place + length l + 1) value ∙ sym (cond-true _ _ _ (lt-ltb _ _ (c .if-self .left)));
-      part = c .piece-line .ensures .part;
-      count = refl;
-    }
+    let past = cond-true _ (self .place + length (piece-at 10 (self .sheet .now) (self .place)) + 1) (self .place) (lt-ltb _ _ (c .if-self .left)) in
+    record { sheet = refl; line = cc; left = cc; place = cc; part = c .piece-line .ensures .part; count = refl }
