@@ -1,3 +1,2 @@
 mod AsAsked
-mod Places
 mod Weekdays

@@ -10,7 +10,8 @@ use Rattle.std.specs.declared.result.Result.{Result}
 use Rattle.std.specs.declared.result.Result.the-variants.{Ok, Err}
 use Rattle.calendar.specs.declared.fault.CalendarFault.{CalendarFault}
 use Rattle.calendar.specs.declared.fault.CalendarFault.the-variants.{NoWeekday, TooManyPairs, BadRow, BadRun, TooManyRuns}
-use Rattle.calendar.specs.Pairs.{bad-row, bad-run}
+use Rattle.pairs.specs.Pairs.{bad-pair}
+use Rattle.calendar.specs.Pairs.{bad-run}
 
 abbrev pub Verdict : Type 0
 Verdict = Result (Unit {0}) CalendarFault
@@ -21,7 +22,7 @@ unless fault None = Ok tt
 unless fault (Some i) = Err (fault i)
 
 abbrev pub rows-check : List (ℕ × ℕ) → Verdict
-rows-check rows = unless BadRow (bad-row rows)
+rows-check rows = unless BadRow (bad-pair rows)
 
 -- first the length of the list, then its rows
 abbrev pub listed-check : List (ℕ × ℕ) → Verdict

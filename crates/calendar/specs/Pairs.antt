@@ -1,31 +1,15 @@
--- Pairs (fewest, most), and the pair that each kind of calendar has on a day.
-use mathlib.Core.Bool.{Bool, true, false, cond, _&&_, _||_}
+-- Weekdays, closed runs, and the pair that each kind of calendar has on a day.
+use mathlib.Core.Bool.{Bool, false, cond, _&&_, _||_}
 use mathlib.Core.List.{List, [], _∷_}
-use Prim.Native.Nat.{ℕ, _+_, _%_, _≤_}
+use Prim.Native.Nat.{ℕ, _+_, _%_}
 use lib.Dec.{leb}
 use lib.ListN.{getD}
 use Rattle.std.specs.declared.option.Option.{Option}
-use Rattle.std.specs.declared.option.Option.the-variants.{Some, None}
-
--- a day's pair: its fewest is at most its most, and its most at most 512
-abbrev pub Sound : ℕ × ℕ → Type 0
-Sound p = (p .0 ≤ p .1) × (p .1 ≤ 512)
-
-abbrev pub sound : ℕ × ℕ → Bool
-sound p = leb (p .0) (p .1) && leb (p .1) 512
+use Rattle.pairs.specs.Places.{failing}
 
 -- a run of days, its first and its last: it does not end before it begins
 abbrev pub ordered : ℕ × ℕ → Bool
 ordered r = leb (r .0) (r .1)
-
--- the first place, from place i on, where a test fails
-abbrev pub failing : (ℕ × ℕ → Bool) → ℕ → List (ℕ × ℕ) → Option ℕ
-failing test i [] = None
-failing test i (x ∷ xs) = cond (test x) (failing test (i + 1) xs) (Some i)
-
--- the first row that is no pair of a fewest and a most
-abbrev pub bad-row : List (ℕ × ℕ) → Option ℕ
-bad-row rows = failing sound 0 rows
 
 -- the first run that ends before it begins
 abbrev pub bad-run : List (ℕ × ℕ) → Option ℕ

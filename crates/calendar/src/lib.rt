@@ -1,7 +1,7 @@
 // Calendars: how few and how many orders each day takes.
 ghost use mathlib.Core.Path.{_≡_};
 ghost use Prim.Native.Nat.{ℕ, _<_};
-ghost use Rattle.calendar.specs.Pairs.{Sound};
+ghost use Rattle.pairs.specs.Pairs.{Sound};
 
 pub mod fault;
 pub mod layer;
@@ -17,9 +17,6 @@ pub use list::Listed;
 pub use list::calls::ListedCalendar;
 pub use week::Weekly;
 pub use week::calls::WeeklyCalendar;
-
-// The most orders that any day takes.
-pub const MOST: u16 = 512;
 
 // The most pairs of a listed calendar, one for each day from 0 to 65,535.
 pub const LISTED_PAIRS: usize = 65536;

@@ -4,7 +4,7 @@ ghost use Rattle.std.specs.declared.result.Result.the-variants.{Ok};
 ghost use Rattle.calendar.specs.Asked.{AsListed};
 ghost use Rattle.calendar.specs.Checks.{listed-check, kept};
 ghost use Rattle.calendar.specs.Pairs.{listed};
-ghost use Rattle.calendar.specs.Sound.{sound-row};
+ghost use Rattle.pairs.specs.Sound.{sound-at};
 ghost use Rattle.calendar.specs.Told.{listed-told};
 use super::Listed;
 use crate::Calendar;
@@ -38,7 +38,7 @@ impl<'a> Listed<'a> {
 pub impl Calendar for Listed<'_> as ListedCalendar {
     ghost told = { listed-told };
 
-    ghost sound = { λ c t _. sound-row (c .rows .now) (c .sound) t };
+    ghost sound = { λ c t _. sound-at (c .rows .now) (c .sound) t };
 
     fn pair(&self, day: u16) -> (u16, u16) {
         match self.rows.get(day as usize) {

@@ -4,7 +4,7 @@ ghost use Rattle.std.specs.declared.result.Result.the-variants.{Ok};
 ghost use Rattle.calendar.specs.Asked.{AsWeekly};
 ghost use Rattle.calendar.specs.Checks.{weekly-check, kept, kept-week};
 ghost use Rattle.calendar.specs.Pairs.{weekly, weekday-on};
-ghost use Rattle.calendar.specs.Sound.{sound-row};
+ghost use Rattle.pairs.specs.Sound.{sound-at};
 ghost use Rattle.calendar.specs.Told.{weekly-told, week-of};
 use super::Weekly;
 use crate::Calendar;
@@ -49,7 +49,7 @@ impl Weekly {
 pub impl Calendar for Weekly as WeeklyCalendar {
     ghost told = { weekly-told };
 
-    ghost sound = { λ c t _. sound-row (c .rows) (c .sound) (weekday-on (c .start) t) };
+    ghost sound = { λ c t _. sound-at (c .rows) (c .sound) (weekday-on (c .start) t) };
 
     fn pair(&self, day: u16) -> (u16, u16) {
         self.rows[self.weekday(day) as usize]
