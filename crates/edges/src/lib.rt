@@ -1,4 +1,7 @@
-// The edges of every check of calendars and headers, as tests.
+// The edges of every check of calendars, headers and the verdict, as tests.
+#[cfg(test)]
+mod verdicts;
+
 #[cfg(test)]
 mod tests {
     use calendar::Calendar;

@@ -33,7 +33,7 @@ pub some-same : (S S′ : ℕ → Bool) (a n : ℕ) → ((t : ℕ) → a ≤ t �
 some-same S S′ a zero q = refl
 some-same S S′ a (suc n) q = rw (q a (omega arith) (omega arith), some-same S S′ (suc a) n (λ t h l. q t (omega arith) (omega arith)))
 
-having-same : (S S′ : ℕ → Bool) (t₀ d : ℕ) (ws : List Window) → Within t₀ d ws → ((t : ℕ) → t₀ ≤ t → t < t₀ + d → S t ≡ S′ t) → having S ws ≡ having S′ ws
+pub having-same : (S S′ : ℕ → Bool) (t₀ d : ℕ) (ws : List Window) → Within t₀ d ws → ((t : ℕ) → t₀ ≤ t → t < t₀ + d → S t ≡ S′ t) → having S ws ≡ having S′ ws
 having-same S S′ t₀ d [] W q = refl
 having-same S S′ t₀ d (w ∷ ws) W q =
     let e : some-day S (days w) ≡ some-day S′ (days w) =
@@ -49,7 +49,7 @@ abbrev pub needs-of : (ℕ → Bool) → ℕ → (ℕ → ℕ) → ℕ → ℕ
 needs-of S t₀ ls d = total (λ v. cond (S (t₀ + v)) (ls v) 0) d
 
 -- the marks of a set
-marks-long : (S : ℕ → Bool) (t₀ d : ℕ) → length (marks-of S t₀ d) ≡ d
+pub marks-long : (S : ℕ → Bool) (t₀ d : ℕ) → length (marks-of S t₀ d) ≡ d
 marks-long S t₀ zero = refl
 marks-long S t₀ (suc d) = omega (arith, marks-long S (suc t₀) d)
 
@@ -62,7 +62,7 @@ marks-small S t₀ zero v = omega arith
 marks-small S t₀ (suc d) zero = tick-small (S t₀)
 marks-small S t₀ (suc d) (suc v) = marks-small S (suc t₀) d v
 
-marks-at : (S : ℕ → Bool) (t₀ d v : ℕ) → v < d → getD (marks-of S t₀ d) v 0 ≡ tick (S (t₀ + v))
+pub marks-at : (S : ℕ → Bool) (t₀ d v : ℕ) → v < d → getD (marks-of S t₀ d) v 0 ≡ tick (S (t₀ + v))
 marks-at S t₀ zero v h = absurd (omega arith)
 marks-at S t₀ (suc d) zero h = let e : t₀ + 0 ≡ t₀ = omega arith in rw e
 marks-at S t₀ (suc d) (suc v) h =

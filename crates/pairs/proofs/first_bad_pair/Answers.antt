@@ -12,14 +12,14 @@ returns-then-fewest-most c =
     let pairs = c .args .pairs .now in
     let i = c .loop-i .i in
     let bad : sound (getD pairs i (0, 0)) ≡ false = grind (arith, tells, c .then-fewest-most .either) in
-    sym (fails-here sound pairs (0, 0) i (c .loop-i-test .taken) bad) ∙ c .loop-i .inv
+    sym (fails-here sound pairs i (0, 0) (c .loop-i-test .taken) bad) ∙ c .loop-i .inv
 
 pub loop-i-again : need.loop-i-again
 loop-i-again c =
     let pairs = c .args .pairs .now in
     let i = c .loop-i .i in
     let good : sound (getD pairs i (0, 0)) ≡ true = grind (arith, tells) in
-    sym (fails-later sound pairs (0, 0) i (c .loop-i-test .taken) good) ∙ c .loop-i .inv
+    sym (fails-later sound pairs i (0, 0) (c .loop-i-test .taken) good) ∙ c .loop-i .inv
 
 pub returns : need.returns
-returns c = sym (fails-nowhere sound (c .args .pairs .now) (0, 0) (c .loop-i .i) (c .loop-i-test .left)) ∙ c .loop-i .inv
+returns c = sym (fails-nowhere sound (c .args .pairs .now) (c .loop-i .i) (0, 0) (c .loop-i-test .left)) ∙ c .loop-i .inv

@@ -12,14 +12,14 @@ returns-then-first-last c =
     let runs = c .args .runs .now in
     let i = c .loop-i .i in
     let bad : ordered (getD runs i (0, 0)) ≡ false = grind (arith, tells) in
-    sym (fails-here ordered runs (0, 0) i (c .loop-i-test .taken) bad) ∙ c .loop-i .inv
+    sym (fails-here ordered runs i (0, 0) (c .loop-i-test .taken) bad) ∙ c .loop-i .inv
 
 pub loop-i-again : need.loop-i-again
 loop-i-again c =
     let runs = c .args .runs .now in
     let i = c .loop-i .i in
     let good : ordered (getD runs i (0, 0)) ≡ true = grind (arith, tells) in
-    sym (fails-later ordered runs (0, 0) i (c .loop-i-test .taken) good) ∙ c .loop-i .inv
+    sym (fails-later ordered runs i (0, 0) (c .loop-i-test .taken) good) ∙ c .loop-i .inv
 
 pub returns : need.returns
-returns c = sym (fails-nowhere ordered (c .args .runs .now) (0, 0) (c .loop-i .i) (c .loop-i-test .left)) ∙ c .loop-i .inv
+returns c = sym (fails-nowhere ordered (c .args .runs .now) (c .loop-i .i) (0, 0) (c .loop-i-test .left)) ∙ c .loop-i .inv

@@ -1,0 +1,15 @@
+-- Lists that loops write
+pub mod Writes
+pub mod Parts
+-- The counts of runs, and the overfull run
+pub mod Windows
+pub mod Overfull
+pub mod Marking
+-- The need from the left, and the marks of a shortage
+pub mod Grow
+pub mod Missing
+-- The checks and the verdict
+pub mod Places
+pub mod Checked
+pub mod Replies
+pub mod Judged
