@@ -13,3 +13,13 @@ pub mod Places
 pub mod Checked
 pub mod Replies
 pub mod Judged
+-- The need from the right, tight runs, and the narrowing
+pub mod Backward
+pub mod TightEnds
+pub mod ScanSteps
+pub mod Accepted
+pub mod Placing
+pub mod Scanned
+pub mod Meaning
+-- The support question
+pub mod Closing
