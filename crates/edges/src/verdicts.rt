@@ -1,9 +1,9 @@
-use narrowing::NarrowingFault;
-use narrowing::Window;
-use narrowing::WindowRecord;
-use narrowing::fault::NarrowingFaultDebug;
-use narrowing::fault::NarrowingFaultPartialEq;
 use narrowing::verdict;
+use records::NarrowingFault;
+use records::Window;
+use records::WindowRecord;
+use records::fault::NarrowingFaultDebug;
+use records::fault::NarrowingFaultPartialEq;
 use std::alloc::Global;
 use std::test::*;
 
@@ -41,7 +41,12 @@ fn alike(first: u16, count: usize, pair: (u16, u16)) -> Days {
 #[test]
 fn days_are_1_to_128(rt: LibcRuntime) -> Result<(), Fail> {
     let heap = rt.alloc();
-    gives(heap, alike(0, 0, (0, 1)), &[], Err(NarrowingFault::BadRange))?;
+    gives(
+        heap,
+        alike(0, 0, (0, 1)),
+        &[],
+        Err(NarrowingFault::BadRange),
+    )?;
     gives(heap, alike(0, 1, (0, 1)), &[], Ok(()))?;
     gives(heap, alike(0, 128, (0, 1)), &[], Ok(()))?;
     gives(

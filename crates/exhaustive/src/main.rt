@@ -2,13 +2,13 @@
 mod problems;
 mod search;
 
-use narrowing::WindowRecord;
 use narrowing::verdict;
 use problems::Problem;
 use problems::SIZE;
 use problems::numbered;
 use problems::record;
 use problems::windows_in;
+use records::WindowRecord;
 use search::Reply;
 use search::agrees;
 use search::sought;

@@ -1,4 +1,4 @@
-use narrowing::Window;
+use records::Window;
 
 // The most days and the most records of a problem.
 pub const SIZE: usize = 3;

@@ -1,6 +1,6 @@
 use crate::problems::Problem;
 use crate::problems::SIZE;
-use narrowing::NarrowingFault;
+use records::NarrowingFault;
 
 // The three kinds of reply to a problem that passes the checks.
 #[derive(Clone, Copy, PartialEq, Eq, Debug)]

@@ -6,7 +6,7 @@ use native.Mathlib.Omega.{arith}
 use Rattle.std.specs.declared.result.Result.the-variants.{Ok, Err}
 use Rattle.plans.specs.Plans.{Window, Pair}
 use Rattle.plans.specs.Replies.{reply}
-use Rattle.narrowing.specs.Checks.{Outcome, past, checked}
+use Rattle.records.specs.Checks.{Outcome, past, checked}
 use Rattle.narrowing.specs.Verdict.{told, verdict-of}
 
 first-passed : (o next : Outcome) → past o next ≡ Ok tt → o ≡ Ok tt

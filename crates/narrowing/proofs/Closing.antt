@@ -16,10 +16,10 @@ use Rattle.plans.specs.Needs.{Within, Proper, Need-left}
 use Rattle.plans.specs.Narrowing.{window, supported, Possible}
 use Rattle.plans.proofs.Exists.{plan-exists, mosts-kept-when}
 use Rattle.plans.proofs.Narrowing.{supported-means, possible-closed}
-use Rattle.narrowing.specs.declared.record.bare.Window.{Window as Bare}
-use Rattle.narrowing.specs.Bare.{span-of}
+use Rattle.records.specs.declared.record.bare.Window.{Window as Bare}
+use Rattle.records.specs.Bare.{span-of}
 use Rattle.narrowing.specs.declared.support.SupportFault.the-variants.{NoSuchQuestion}
-use Rattle.narrowing.specs.Checks.{checked}
+use Rattle.records.specs.Checks.{checked}
 use Rattle.narrowing.specs.Support.{bare, askable, support-of, copied}
 
 -- one element more, copied over the front

@@ -14,8 +14,8 @@ use Rattle.plans.specs.Needs.{Within, Need-left, Proper}
 use Rattle.plans.specs.Replies.{Reply, reply}
 use Rattle.plans.proofs.Room.{room-sum}
 use Rattle.plans.proofs.Exists.{plan-exists}
-use Rattle.narrowing.specs.declared.fault.NarrowingFault.the-variants.{Overfull, Short}
-use Rattle.narrowing.specs.Checks.{Outcome, past, checked}
+use Rattle.records.specs.declared.fault.NarrowingFault.the-variants.{Overfull, Short}
+use Rattle.records.specs.Checks.{Outcome, past, checked}
 use Rattle.narrowing.specs.Counting.{Counted, Summed}
 use Rattle.narrowing.specs.Verdict.{told, verdict-of, Marked, Marked-past, Marks-after}
 use Rattle.narrowing.proofs.Overfull.{cell-held}

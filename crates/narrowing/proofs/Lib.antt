@@ -9,8 +9,6 @@ pub mod Marking
 pub mod Grow
 pub mod Missing
 -- The checks and the verdict
-pub mod Places
-pub mod Checked
 pub mod Replies
 pub mod Judged
 -- The need from the right, tight runs, and the narrowing

@@ -8,10 +8,11 @@ use Rattle.std.proofs.shelf.Tests.{le-leb}
 use Rattle.std.proofs.shelf.Lists.{getD-append-right, getD-drop, length-map, length-take-le, take-all, drop-all, append-nil}
 use Rattle.plans.specs.Plans.{Window}
 use Rattle.plans.specs.Needs.{Within}
-use Rattle.narrowing.specs.Records.{taking}
+use Rattle.records.specs.Records.{taking}
 use Rattle.narrowing.specs.Narrow.{placed}
 use Rattle.narrowing.specs.Scanning.{found, Shorter}
-use Rattle.narrowing.proofs.Windows.{told-at, told-within}
+use Rattle.records.proofs.Windows.{told-at}
+use Rattle.narrowing.proofs.Windows.{told-within}
 
 -- a map in place has not touched what is to come
 pub untouched : {X : Type 0} (f : X → X) (xs ys : List X) (i : ℕ) (x : X) → i < length xs → ys ≡ map f (take i xs) ++ drop i xs → x ≡ getD ys i x → x ≡ getD xs i x

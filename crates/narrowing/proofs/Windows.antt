@@ -10,6 +10,7 @@ use lib.ListN.{length, getD, set, take, drop}
 use Rattle.std.specs.shelf.Lists.{sum}
 use Rattle.std.proofs.shelf.Tests.{cases-eq}
 use Rattle.std.proofs.shelf.Lists.{getD-set-same, getD-set-other, getD-map, take-more, drop-all, length-take-le, length-map}
+use Rattle.records.proofs.Windows.{told-at}
 use Rattle.plans.specs.Plans.{Window, tick}
 use Rattle.plans.specs.Runs.{lies, inside}
 use Rattle.plans.specs.Needs.{Within, forced}
@@ -19,10 +20,6 @@ use Rattle.narrowing.proofs.Writes.{sum-drop}
 tick-small : (b : Bool) → tick b ≤ 1
 tick-small true = omega arith
 tick-small false = omega arith
-
--- the window that the record at a place tells
-pub told-at : {X : Type 0} (span : X → Window) (xs : List X) (i : ℕ) (x : X) (w : Window) → i < length xs → x ≡ getD xs i x → w ≡ span x → w ≡ getD (map span xs) i (0, 0)
-told-at span xs i x w h is tells = tells ∙ ap span is ∙ sym (getD-map span xs i x (0, 0) h)
 
 -- a window at a place stands in the days
 pub window-at : (k d : ℕ) (ws : List Window) (i : ℕ) → Within k d ws → i < length ws

@@ -1,8 +1,4 @@
 -- What the public calls promise,
-pub mod Records
-pub mod Bare
-pub mod Faults
-pub mod Checks
 pub mod Verdict
 pub mod Narrow
 pub mod Support

@@ -5,7 +5,7 @@ use lib.ListN.{length}
 use Rattle.std.specs.declared.result.Result.the-variants.{Ok, Err}
 use Rattle.plans.specs.Plans.{Window, Pair}
 use Rattle.plans.specs.Narrowing.{window, narrowed, Smallest, Largest}
-use Rattle.narrowing.specs.Checks.{Outcome}
+use Rattle.records.specs.Checks.{Outcome}
 
 -- Each record is put into the window at its place; the rest of it stays.
 abbrev pub placed : {R : Type 0} → (R → ℕ × ℕ → R) → List Window → List R → List R

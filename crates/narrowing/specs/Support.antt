@@ -10,11 +10,11 @@ use Rattle.std.specs.declared.result.Result.{Result}
 use Rattle.std.specs.declared.result.Result.the-variants.{Ok, Err}
 use Rattle.plans.specs.Plans.{Pair}
 use Rattle.plans.specs.Narrowing.{supported}
-use Rattle.narrowing.specs.declared.record.bare.Window.{Window}
+use Rattle.records.specs.declared.record.bare.Window.{Window}
 use Rattle.narrowing.specs.declared.support.SupportFault.{SupportFault}
 use Rattle.narrowing.specs.declared.support.SupportFault.the-variants.{Refused, NoSuchQuestion}
-use Rattle.narrowing.specs.Faults.{number-of, place-of}
-use Rattle.narrowing.specs.Checks.{Outcome, checked}
+use Rattle.records.specs.Faults.{number-of, place-of}
+use Rattle.records.specs.Checks.{Outcome, checked}
 
 -- Yes or no, or refused with a fault.
 abbrev pub Support : Type 0

@@ -8,9 +8,9 @@ use Rattle.std.specs.declared.result.Result.the-variants.{Ok, Err}
 use Rattle.plans.specs.Plans.{Window, Pair, Keeps-mosts, Plan}
 use Rattle.plans.specs.Sets.{Marks, run-marks, Shows-shortage}
 use Rattle.plans.specs.Replies.{Reply, Reply.accepted, Reply.overfull, Reply.short, reply}
-use Rattle.narrowing.specs.declared.fault.NarrowingFault.the-variants.{Overfull, Short}
-use Rattle.narrowing.specs.Faults.{number-of}
-use Rattle.narrowing.specs.Checks.{Outcome, past, checked}
+use Rattle.records.specs.declared.fault.NarrowingFault.the-variants.{Overfull, Short}
+use Rattle.records.specs.Faults.{number-of}
+use Rattle.records.specs.Checks.{Outcome, past, checked}
 
 -- How a reply is told. The run of 20 is told by the marks.
 abbrev pub told : Reply → Outcome

@@ -7,8 +7,8 @@ ghost use lib.ListN.{length, getD, drop};
 ghost use Rattle.std.specs.shelf.Lists.{sum};
 ghost use Rattle.plans.specs.Needs.{Within};
 ghost use Rattle.narrowing.specs.Counting.{Blank, Tallied, Counted};
-use crate::limits::MOST_DAYS;
-use crate::record::Record;
+use records::Record;
+use records::limits::MOST_DAYS;
 
 // The row of a last day, as far as the run of that day alone.
 pub(crate) fn row(table: &[u16], last: usize) -> &[u16]

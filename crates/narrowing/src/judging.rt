@@ -6,22 +6,22 @@ ghost use lib.ListN.{length, take};
 ghost use Rattle.std.specs.declared.result.Result.the-variants.{Ok};
 ghost use Rattle.plans.specs.Needs.{Proper};
 ghost use Rattle.plans.specs.Replies.{reply};
-ghost use Rattle.narrowing.specs.Checks.{checked};
+ghost use Rattle.records.specs.Checks.{checked};
 ghost use Rattle.narrowing.specs.Verdict.{told, Marked, verdict-of, Marks-after, Verdict-means};
-use crate::checks::check;
 use crate::counting::count_runs;
-use crate::fault::NarrowingFault;
-use crate::limits::CELLS;
-use crate::limits::EDGES;
-use crate::limits::MOST_DAYS;
 use crate::needs::needs_left;
-use crate::record::Record;
 use crate::runs::mark_run;
 use crate::runs::overfull;
 use crate::runs::sum_mosts;
 use crate::shortage::count_meeting;
 use crate::shortage::mark_shortage;
 use crate::shortage::sum_needed;
+use records::NarrowingFault;
+use records::Record;
+use records::check;
+use records::limits::CELLS;
+use records::limits::EDGES;
+use records::limits::MOST_DAYS;
 
 // The verdict past the checks.
 fn judge<R: Record>(

@@ -4,7 +4,7 @@ ghost use mathlib.Core.List.{List};
 ghost use lib.ListN.{length};
 ghost use Rattle.plans.specs.Plans.{Window};
 ghost use Rattle.narrowing.specs.Laws.{Narrowed-ends, Plans-stay, Narrowed-twice, Rest-stays};
-use crate::record::Record;
+use records::Record;
 
 // Each end of a narrowed window is the day of its place in some plan, and no plan gives the place a day outside.
 pub fn narrowed_ends()

@@ -12,18 +12,18 @@ ghost use Rattle.narrowing.specs.Verdict.{verdict-of, Marks-after};
 ghost use Rattle.narrowing.specs.Narrow.{placed, narrow-of, Narrowest};
 ghost use Rattle.narrowing.specs.Scanning.{found, Shorter};
 use crate::counting::count_runs;
-use crate::fault::NarrowingFault;
 use crate::judging::verdict;
-use crate::limits::CELLS;
-use crate::limits::EDGES;
-use crate::limits::MOST_DAYS;
 use crate::needs::needs_left;
-use crate::record::Record;
 use crate::right::needs_right;
 use crate::runs::sum_mosts;
 use crate::scans::highs;
 use crate::scans::lows;
 use crate::tight::tight_ends;
+use records::NarrowingFault;
+use records::Record;
+use records::limits::CELLS;
+use records::limits::EDGES;
+use records::limits::MOST_DAYS;
 
 // Puts each record into the window that the table gives for its own.
 fn put_windows<R: Record>(day: u16, table: &[u8], records: &mut [R])

@@ -6,7 +6,7 @@ ghost use Prim.Native.Nat.{ℕ, _+_, _*_, _<_, _≤_};
 ghost use lib.Dec.{leb, ltb};
 ghost use lib.ListN.{length, getD};
 ghost use Rattle.narrowing.specs.Scanning.{Lows, Highs};
-use crate::limits::MOST_DAYS;
+use records::limits::MOST_DAYS;
 
 // The windows end one day later: where a tight run that has the lowest day ends just before that day, it is the lowest.
 fn low_step(last: u8, early: u16, low: &mut [u8], row: &mut [u8])

@@ -8,8 +8,8 @@ ghost use Rattle.plans.specs.Sets.{Marks, meeting, needed};
 ghost use Rattle.plans.specs.Needs.{Within};
 ghost use Rattle.narrowing.specs.Counting.{tabled, Needs-of, Shown};
 use crate::counting::row;
-use crate::limits::EDGES;
-use crate::record::Record;
+use records::Record;
+use records::limits::EDGES;
 
 // The first day whose need with its cell comes to the goal, where one does.
 fn find_run(row: &[u16], left: &[u32], goal: u32) -> usize

@@ -8,23 +8,23 @@ ghost use lib.ListN.{length, set};
 ghost use Rattle.std.specs.declared.result.Result.the-variants.{Ok};
 ghost use Rattle.plans.specs.Needs.{Within, Proper};
 ghost use Rattle.plans.specs.Narrowing.{supported, Possible};
-ghost use Rattle.narrowing.specs.Bare.{span-of};
+ghost use Rattle.records.specs.Bare.{span-of};
 ghost use Rattle.narrowing.specs.Counting.{Blank, Counted};
 ghost use Rattle.narrowing.specs.Support.{support-number, support-place, support-layer, askable, support-of, copied, work-after};
 ghost use Rattle.narrowing.specs.declared.support.SupportFault.the-variants.{Refused};
-use crate::WindowRecord;
-use crate::checks::check;
 use crate::counting::count_runs;
-use crate::fault::NarrowingFault;
-use crate::fault::NarrowingFaultDebug;
-use crate::fault::NarrowingFaultPartialEq;
-use crate::limits::CELLS;
-use crate::limits::EDGES;
 use crate::needs::needs_left;
-use crate::record::Record;
-use crate::record::bare::Window;
 use crate::runs::overfull;
 use crate::runs::sum_mosts;
+use records::NarrowingFault;
+use records::Record;
+use records::Window;
+use records::WindowRecord;
+use records::check;
+use records::fault::NarrowingFaultDebug;
+use records::fault::NarrowingFaultPartialEq;
+use records::limits::CELLS;
+use records::limits::EDGES;
 
 // Why a question has no answer.
 #[derive(Clone, Copy, PartialEq, Eq, Debug)]

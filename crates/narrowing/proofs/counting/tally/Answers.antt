@@ -5,7 +5,8 @@ use native.Mathlib.Omega.{arith}
 use Rattle.std.proofs.shelf.Lists.{length-set, length-map, take-all}
 use Rattle.plans.specs.Plans.{Window}
 use Rattle.narrowing.specs.Counting.{matching}
-use Rattle.narrowing.proofs.Windows.{told-at, told-within, matching-few, tally-more}
+use Rattle.records.proofs.Windows.{told-at}
+use Rattle.narrowing.proofs.Windows.{told-within, matching-few, tally-more}
 use Rattle.narrowing.proofs.counting.tally.Needs as need
 
 pub sub-table : need.sub-table

@@ -5,9 +5,9 @@ use native.Mathlib.Omega.{arith}
 use lib.ListN.{length, take}
 use Rattle.std.specs.declared.result.Result.the-variants.{Ok}
 use Rattle.std.proofs.shelf.Lists.{length-map}
-use Rattle.narrowing.specs.Checks.{checked}
+use Rattle.records.specs.Checks.{checked}
 use Rattle.narrowing.specs.Verdict.{Verdict-means}
-use Rattle.narrowing.proofs.Checked.{passed}
+use Rattle.records.proofs.Checked.{passed}
 use Rattle.narrowing.proofs.Replies.{told-means}
 use Rattle.narrowing.proofs.Judged.{answer-past, marks-past}
 use Rattle.narrowing.proofs.judging.verdict.Needs as need

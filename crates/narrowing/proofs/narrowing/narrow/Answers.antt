@@ -6,9 +6,9 @@ use lib.ListN.{length, take}
 use Rattle.std.specs.declared.result.Result.the-variants.{Ok}
 use Rattle.std.proofs.shelf.Lists.{length-map}
 use Rattle.plans.specs.Plans.{Window, Pair}
-use Rattle.narrowing.specs.Checks.{checked}
+use Rattle.records.specs.Checks.{checked}
 use Rattle.narrowing.proofs.Accepted.{accepted-checked}
-use Rattle.narrowing.proofs.Checked.{passed}
+use Rattle.records.proofs.Checked.{passed}
 use Rattle.narrowing.proofs.Meaning.{narrowest}
 use Rattle.narrowing.proofs.narrowing.narrow.Needs as need
 

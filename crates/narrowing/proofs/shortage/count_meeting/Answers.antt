@@ -11,7 +11,8 @@ use Rattle.plans.specs.Plans.{Window, days, from, tick}
 use Rattle.plans.specs.Runs.{total}
 use Rattle.plans.specs.Sets.{in-set, some-day, having, meeting}
 use Rattle.narrowing.specs.Counting.{tabled}
-use Rattle.narrowing.proofs.Windows.{told-at, told-within}
+use Rattle.records.proofs.Windows.{told-at}
+use Rattle.narrowing.proofs.Windows.{told-within}
 use Rattle.narrowing.proofs.Missing.{some-by-sums, having-push}
 use Rattle.narrowing.proofs.shortage.count_meeting.Needs as need
 

@@ -4,7 +4,7 @@ use Prim.Native.Nat.{ℕ}
 use native.Mathlib.Omega.{arith}
 use lib.ListN.{length, getD, set, take, drop}
 use Rattle.std.proofs.shelf.Lists.{length-map, take-all, getD-map}
-use Rattle.narrowing.specs.declared.record.bare.Window.{Window}
+use Rattle.records.specs.declared.record.bare.Window.{Window}
 use Rattle.narrowing.specs.Support.{bare}
 use Rattle.narrowing.proofs.Closing.{copy-more}
 use Rattle.narrowing.proofs.support.copy_windows.Needs as need

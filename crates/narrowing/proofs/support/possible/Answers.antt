@@ -4,7 +4,7 @@ use Prim.Native.Nat.{ℕ}
 use native.Mathlib.Omega.{arith}
 use Rattle.std.proofs.shelf.Lists.{length-set}
 use Rattle.plans.specs.Plans.{Pair}
-use Rattle.narrowing.specs.declared.record.bare.Window.{Window}
+use Rattle.records.specs.declared.record.bare.Window.{Window}
 use Rattle.narrowing.specs.Counting.{tabled}
 use Rattle.narrowing.specs.Support.{bare}
 use Rattle.narrowing.proofs.Writes.{zeros}

@@ -11,10 +11,10 @@ use Rattle.plans.specs.Plans.{Window, Pair}
 use Rattle.plans.specs.Needs.{Proper}
 use Rattle.plans.specs.Narrowing.{supported, Possible}
 use Rattle.plans.proofs.Narrowing.{supported-means}
-use Rattle.narrowing.specs.declared.record.bare.Window.{Window as Bare}
-use Rattle.narrowing.specs.Bare.{span-of}
-use Rattle.narrowing.specs.Checks.{checked}
-use Rattle.narrowing.proofs.Checked.{passed}
+use Rattle.records.specs.declared.record.bare.Window.{Window as Bare}
+use Rattle.records.specs.Bare.{span-of}
+use Rattle.records.specs.Checks.{checked}
+use Rattle.records.proofs.Checked.{passed}
 use Rattle.narrowing.proofs.Closing.{not-asked, asked, asked-place, front-spans}
 use Rattle.narrowing.proofs.support.supports.Needs as need
 

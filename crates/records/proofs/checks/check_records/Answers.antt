@@ -3,10 +3,10 @@ use mathlib.Core.List.{List, map}
 use lib.ListN.{length}
 use Rattle.std.proofs.shelf.Lists.{length-map}
 use Rattle.plans.specs.Plans.{Window}
-use Rattle.narrowing.specs.declared.fault.NarrowingFault.the-variants.{BadWindow}
-use Rattle.narrowing.specs.Checks.{unless, windows-check}
-use Rattle.narrowing.proofs.Checked.{many-refused, few-pass}
-use Rattle.narrowing.proofs.checks.check_records.Needs as need
+use Rattle.records.specs.declared.fault.NarrowingFault.the-variants.{BadWindow}
+use Rattle.records.specs.Checks.{unless, windows-check}
+use Rattle.records.proofs.Checked.{many-refused, few-pass}
+use Rattle.records.proofs.checks.check_records.Needs as need
 
 pub returns-then-records-gt-MOST-RECORDS : need.returns-then-records-gt-MOST-RECORDS
 returns-then-records-gt-MOST-RECORDS g c =

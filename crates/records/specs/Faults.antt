@@ -2,8 +2,8 @@
 use Prim.Native.Nat.{ℕ}
 use Rattle.std.specs.declared.option.Option.{Option}
 use Rattle.std.specs.declared.option.Option.the-variants.{Some, None}
-use Rattle.narrowing.specs.declared.fault.NarrowingFault.{NarrowingFault}
-use Rattle.narrowing.specs.declared.fault.NarrowingFault.the-variants.{BadRange, BadPair, TooManyRecords, BadWindow, Overfull, Short}
+use Rattle.records.specs.declared.fault.NarrowingFault.{NarrowingFault}
+use Rattle.records.specs.declared.fault.NarrowingFault.the-variants.{BadRange, BadPair, TooManyRecords, BadWindow, Overfull, Short}
 
 abbrev pub number-of : NarrowingFault → ℕ
 number-of BadRange = 10

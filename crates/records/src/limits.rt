@@ -8,7 +8,7 @@ pub const LAST_DAY: usize = 65535;
 pub const MOST_RECORDS: usize = 512;
 
 // A cell for each first and last day.
-pub(crate) const CELLS: usize = MOST_DAYS * MOST_DAYS;
+pub const CELLS: usize = MOST_DAYS * MOST_DAYS;
 
 // A place before each day, and one after the last.
-pub(crate) const EDGES: usize = MOST_DAYS + 1;
+pub const EDGES: usize = MOST_DAYS + 1;

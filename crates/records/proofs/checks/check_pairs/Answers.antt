@@ -4,7 +4,7 @@ use native.Mathlib.Omega.{arith}
 use lib.ListN.{length}
 use Rattle.pairs.specs.Pairs.{sound}
 use Rattle.pairs.proofs.Places.{place-below}
-use Rattle.narrowing.proofs.checks.check_pairs.Needs as need
+use Rattle.records.proofs.checks.check_pairs.Needs as need
 
 pub cast-result : need.cast-result
 cast-result c =

@@ -2,8 +2,8 @@ use mathlib.Core.Path.{_≡_}
 use mathlib.Core.List.{map}
 use lib.ListN.{drop}
 use Rattle.pairs.specs.Places.{failing}
-use Rattle.narrowing.specs.Checks.{stands}
-use Rattle.narrowing.proofs.checks.first_bad_window.Given as given
+use Rattle.records.specs.Checks.{stands}
+use Rattle.records.proofs.checks.first_bad_window.Given as given
 
 abbrev pub Inv-loop-i : given.InvT-loop-i
 Inv-loop-i g l =

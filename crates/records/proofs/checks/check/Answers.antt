@@ -1,7 +1,7 @@
 use mathlib.Core.Path.{sym}
 use lib.ListN.{length}
-use Rattle.narrowing.proofs.Checked.{range-passed}
-use Rattle.narrowing.proofs.checks.check.Needs as need
+use Rattle.records.proofs.Checked.{range-passed}
+use Rattle.records.proofs.checks.check.Needs as need
 
 pub check-pairs-requires : need.check-pairs-requires
 check-pairs-requires g c κs =

@@ -12,12 +12,12 @@ use Rattle.std.specs.declared.result.Result.the-variants.{Ok, Err}
 use Rattle.std.proofs.shelf.Tests.{and-parts, leb-true, ltb-true, le-leb, lt-leb}
 use Rattle.plans.specs.Plans.{Window, Pair}
 use Rattle.plans.specs.Needs.{Proper}
-use Rattle.narrowing.specs.declared.fault.NarrowingFault.{NarrowingFault}
-use Rattle.narrowing.specs.declared.fault.NarrowingFault.the-variants.{BadRange, BadPair, TooManyRecords, BadWindow}
+use Rattle.records.specs.declared.fault.NarrowingFault.{NarrowingFault}
+use Rattle.records.specs.declared.fault.NarrowingFault.the-variants.{BadRange, BadPair, TooManyRecords, BadWindow}
 use Rattle.pairs.specs.Pairs.{bad-pair}
 use Rattle.pairs.specs.Places.{failing}
-use Rattle.narrowing.specs.Checks.{Outcome, in-range, stands, unless, past, range-check, pairs-check, number-check, windows-check, checked}
-use Rattle.narrowing.proofs.Places.{sound-all, stands-all}
+use Rattle.records.specs.Checks.{Outcome, in-range, stands, unless, past, range-check, pairs-check, number-check, windows-check, checked}
+use Rattle.records.proofs.Places.{sound-all, stands-all}
 
 -- a range that is passed
 pub record In-range (k d n : ℕ) : Type 0 where

@@ -4,7 +4,7 @@ ghost use mathlib.Core.List.{map};
 ghost use Prim.Native.Nat.{_+_, _≤_};
 ghost use lib.ListN.{length};
 ghost use Rattle.pairs.specs.Places.{failing};
-ghost use Rattle.narrowing.specs.Checks.{stands, past, range-check, pairs-check, number-check, windows-check, checked};
+ghost use Rattle.records.specs.Checks.{stands, past, range-check, pairs-check, number-check, windows-check, checked};
 use crate::fault::NarrowingFault;
 use crate::limits::LAST_DAY;
 use crate::limits::MOST_DAYS;
@@ -67,7 +67,7 @@ fn check_records<R: Record>(first: u16, days: usize, records: &[R]) -> Result<()
 }
 
 // The checks in their order.
-pub(crate) fn check<R: Record>(
+pub fn check<R: Record>(
     first: u16,
     pairs: &[(u16, u16)],
     records: &[R],

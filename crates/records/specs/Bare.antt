@@ -1,6 +1,6 @@
 -- The bare window as a record: it is its window, and there is no rest.
 use Prim.Native.Nat.{ℕ}
-use Rattle.narrowing.specs.declared.record.bare.Window.{Window}
+use Rattle.records.specs.declared.record.bare.Window.{Window}
 
 abbrev pub span-of : Window → ℕ × ℕ
 span-of w = (w .first, w .last)

@@ -1,6 +1,6 @@
 ghost use mathlib.Core.Path.{_≡_};
 ghost use Prim.Native.Nat.{ℕ};
-ghost use Rattle.narrowing.specs.Records.{taking};
+ghost use Rattle.records.specs.Records.{taking};
 
 pub mod bare;
 

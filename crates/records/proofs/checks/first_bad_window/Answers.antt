@@ -4,10 +4,10 @@ use mathlib.Core.Bool.{true, false}
 use Prim.Native.Nat.{ℕ}
 use Rattle.std.proofs.shelf.Lists.{length-map}
 use Rattle.plans.specs.Plans.{Window}
-use Rattle.narrowing.specs.Checks.{stands}
-use Rattle.narrowing.proofs.Windows.{told-at}
+use Rattle.records.specs.Checks.{stands}
+use Rattle.records.proofs.Windows.{told-at}
 use Rattle.pairs.proofs.Places.{fails-here, fails-later, fails-nowhere}
-use Rattle.narrowing.proofs.checks.first_bad_window.Needs as need
+use Rattle.records.proofs.checks.first_bad_window.Needs as need
 
 pub returns-then-not-lies-within : need.returns-then-not-lies-within
 returns-then-not-lies-within g c =

@@ -11,8 +11,8 @@ use Rattle.std.specs.declared.result.Result.the-variants.{Ok, Err}
 use Rattle.pairs.specs.Pairs.{bad-pair}
 use Rattle.pairs.specs.Places.{failing}
 use Rattle.plans.specs.Plans.{Window, Pair}
-use Rattle.narrowing.specs.declared.fault.NarrowingFault.{NarrowingFault}
-use Rattle.narrowing.specs.declared.fault.NarrowingFault.the-variants.{BadRange, BadPair, TooManyRecords, BadWindow}
+use Rattle.records.specs.declared.fault.NarrowingFault.{NarrowingFault}
+use Rattle.records.specs.declared.fault.NarrowingFault.the-variants.{BadRange, BadPair, TooManyRecords, BadWindow}
 
 -- Accepted, or refused with a fault.
 abbrev pub Outcome : Type 0

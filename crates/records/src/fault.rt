@@ -1,5 +1,5 @@
 ghost use mathlib.Core.Path.{_≡_};
-ghost use Rattle.narrowing.specs.Faults.{number-of, place-of, counts-of, layer-of};
+ghost use Rattle.records.specs.Faults.{number-of, place-of, counts-of, layer-of};
 
 // Why there is no verdict, or what it is where there is no plan.
 #[derive(Clone, Copy, PartialEq, Eq, Debug)]

@@ -1,4 +1,4 @@
-ghost use Rattle.narrowing.specs.Bare.{span-of, put-in};
+ghost use Rattle.records.specs.Bare.{span-of, put-in};
 use crate::record::Record;
 
 // A bare window: it has its first and its last day and the days between, and nothing else.

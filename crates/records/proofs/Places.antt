@@ -13,7 +13,7 @@ use Rattle.pairs.specs.Sound.{sound-at}
 use Rattle.pairs.proofs.Places.{passes}
 use Rattle.plans.specs.Plans.{Window, Pair, fewest, most}
 use Rattle.plans.specs.Needs.{Within}
-use Rattle.narrowing.specs.Checks.{stands}
+use Rattle.records.specs.Checks.{stands}
 
 -- no fewest is above its most
 pub sound-all : (pairs : List Pair) → bad-pair pairs ≡ None → (v : ℕ) → fewest pairs v ≤ most pairs v

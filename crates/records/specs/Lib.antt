@@ -1,0 +1,4 @@
+pub mod Records
+pub mod Bare
+pub mod Faults
+pub mod Checks
