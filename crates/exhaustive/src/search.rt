@@ -169,3 +169,34 @@ pub fn agrees(problem: &Problem, reply: Result<(), NarrowingFault>, marks: &[u8]
         _ => false,
     }
 }
+
+// Whether an assignment is a plan.
+fn is_plan(problem: &Problem, assignment: usize) -> bool {
+    let (_, plan) = keeps(problem, assignment);
+    plan && assigns(problem, assignment)
+}
+
+// The smallest and the largest day of a place in any plan.
+pub fn ends(problem: &Problem, place: usize) -> Option<(u16, u16)> {
+    let mut found: Option<(u16, u16)> = None;
+    for assignment in 0..27 {
+        if is_plan(problem, assignment) {
+            let day = day_at(assignment, place);
+            found = match found {
+                Some((low, high)) => Some((day.min(low), day.max(high))),
+                None => Some((day, day)),
+            };
+        }
+    }
+    found
+}
+
+// Whether some plan gives a place a day.
+pub fn possible(problem: &Problem, place: usize, day: u16) -> bool {
+    for assignment in 0..27 {
+        if is_plan(problem, assignment) && day_at(assignment, place) == day {
+            return true;
+        }
+    }
+    false
+}
