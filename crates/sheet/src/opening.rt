@@ -1,6 +1,6 @@
 ghost use mathlib.Core.Path.{_≡_};
 ghost use lib.Chars.{codes};
-ghost use Prim.Native.Nat.{_≤_};
+ghost use Prim.Native.Nat.{_+_, _≤_};
 ghost use lib.ListN.{length, drop};
 ghost use Rattle.std.specs.Vec.{made};
 ghost use Rattle.std.specs.declared.result.Result.the-variants.{Ok};
@@ -108,6 +108,7 @@ pub fn open(lines: &mut Lines) -> Result<Closing<Weekly>, Refusal>
     ensures asked { λ r. ⌜ map-ok asked-of r ≡ opened (lines-left (now (lines .entry))) ⌝ }
     ensures sheet { λ _. ⌜ now (lines .exit) .sheet ≡ now (lines .entry) .sheet ⌝ }
     ensures left { λ r. ⌜ lines-left (now (lines .exit)) ≡ drop (lines-read r) (lines-left (now (lines .entry))) ⌝ }
+    ensures all { λ _. ⌜ now (lines .exit) .count + length (lines-left (now (lines .exit))) ≡ now (lines .entry) .count + length (lines-left (now (lines .entry))) ⌝ }
 {
     let Some(line) = lines.next_line() else {
         return Err(SheetFault::Missing(1).at(1));

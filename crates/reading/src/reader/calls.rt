@@ -1,6 +1,7 @@
 ghost use mathlib.Core.Path.{_≡_};
 ghost use mathlib.Core.Bool.{cond};
 ghost use Prim.Native.Nat.{_+_};
+ghost use lib.ListN.{length};
 ghost use Rattle.std.specs.Options.{isSome, mapped};
 ghost use Rattle.std.specs.Slices.{found};
 ghost use Rattle.reading.specs.Pieces.{first, rest, line-end, PartAt};
@@ -37,6 +38,7 @@ impl<'a> Lines<'a> {
         ensures place { λ _. ⌜ now (self .exit) .place ≡ line-end (now (now (self .entry) .sheet)) (now (self .entry) .place) ⌝ }
         ensures part { λ r. ⌜ found r (λ l. PartAt (now (self .entry) .sheet) (now (self .entry) .place) l) ⌝ }
         ensures count { λ r. ⌜ now (self .exit) .count ≡ now (self .entry) .count + cond (isSome r) 1 0 ⌝ }
+        ensures all { λ _. ⌜ now (self .exit) .count + length (lines-left (now (self .exit))) ≡ now (self .entry) .count + length (lines-left (now (self .entry))) ⌝ }
     {
         if self.place >= self.sheet.len() {
             return None;

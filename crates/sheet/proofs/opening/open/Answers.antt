@@ -22,6 +22,7 @@ returns-in-rest-next-line-2 c =
     record {
       asked = ap Err fault ∙ ap (λ o. and-then (on-line 3 o runs-line) (λ runs. Ok (week-of week, runs))) none ∙ sym third;
       sheet = c .next-line-3 .ensures .sheet ∙ c .next-line-2 .ensures .sheet ∙ c .next-line .ensures .sheet;
+      all = c .next-line-3 .ensures .all ∙ c .next-line-2 .ensures .all ∙ c .next-line .ensures .all;
       left = c .next-line-3 .ensures .left ∙ ap rest left ∙ sym (drop-three ls) ∙ ap (λ f. drop (f .line) ls) (sym fault);
     }
 
@@ -37,5 +38,6 @@ returns c =
     record {
       asked = third-given week _ _ (c .closing .result) (c .located-3 .result) (c .in-Some-next-line-2 .ensures tt .line ∙ ap first left) (c .closing .ensures .runs) (c .closing .ensures .week) is ∙ sym third;
       sheet = c .next-line-3 .ensures .sheet ∙ c .next-line-2 .ensures .sheet ∙ c .next-line .ensures .sheet;
+      all = c .next-line-3 .ensures .all ∙ c .next-line-2 .ensures .all ∙ c .next-line .ensures .all;
       left = c .next-line-3 .ensures .left ∙ ap rest left ∙ sym (drop-three ls) ∙ ap (λ n. drop n ls) (sym (three-read (c .closing .result) (c .located-3 .result) is));
     }
