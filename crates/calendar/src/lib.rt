@@ -1,3 +1,5 @@
+#![tactic(auto)]
+
 // Calendars: how few and how many orders each day takes.
 ghost use Rattle.std.specs.Prelude.{◌≡◌, ℕ, ◌<◌};
 ghost use Rattle.pairs.specs.Pairs.{Sound};

@@ -1,3 +1,5 @@
+#![tactic(auto)]
+
 // The edges of every check of calendars, headers and the verdict, of the table of orders, and small first plans, as tests.
 #[cfg(test)]
 mod orders;

@@ -1,3 +1,5 @@
+#![tactic(auto)]
+
 // Puts every small problem to the verdict, the narrowing and the support question, and compares with what is found by trying
 // everything.
 mod problems;

@@ -1,3 +1,5 @@
+#![tactic(auto)]
+
 // The ledger of a book: its theorems, each the contract of a function of its own.
 ghost use Rattle.ledger.specs.Law.{Law, LawGoesOn, OrderlyByCalls, KeptByCalls, MarksNoMatter, Answerable};
 ghost use Rattle.ledger.specs.Worked.{WorkedCases};

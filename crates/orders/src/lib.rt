@@ -1,3 +1,5 @@
+#![tactic(auto)]
+
 // The orders of a book, as records with the window that the narrowing tells, and the table that holds them.
 mod listing;
 pub mod order;

@@ -1,3 +1,5 @@
+#![tactic(auto)]
+
 // Reads the three lines that open a sheet from standard input, and prints the bakery's first 56 days.
 mod day;
 

@@ -1,3 +1,5 @@
+#![tactic(auto)]
+
 // The first plan of records: of all plans the one whose list of days comes first, compared from the front.
 mod closing;
 mod planning;

@@ -1,3 +1,5 @@
+#![tactic(auto)]
+
 // The theorems on plans, each the contract of a function of its own.
 ghost use Rattle.plans.specs.Plans.{PlansListed};
 ghost use Rattle.plans.specs.Runs.{RunNamed};

@@ -1,3 +1,5 @@
+#![tactic(auto)]
+
 // Bytes read as lines, fields and numbers.
 mod cut;
 pub mod decimal;

@@ -1,3 +1,5 @@
+#![tactic(auto)]
+
 // Records, which have windows, what is asked of them before a verdict, and why it is refused.
 mod checks;
 pub mod fault;

@@ -1,3 +1,5 @@
+#![tactic(auto)]
+
 // A sheet: the three lines that open it, its faults and its replies.
 pub mod fault;
 pub mod opening;

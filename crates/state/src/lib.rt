@@ -1,3 +1,5 @@
+#![tactic(auto)]
+
 // The state of a book: the calls that a book and a trial share, over any calendar.
 pub mod state;
 
