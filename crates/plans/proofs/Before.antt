@@ -55,7 +55,7 @@ module _ (t₀ d : ℕ) (ls us : ℕ → ℕ) (ws : List Window) (ts : List ℕ)
     no_less (suc n) zero b h = omega (arith, L.start)
     no_less (suc n) (suc v) b h =
         elim (L.attained v h) [
-          | inl e ↦ omega (arith, e, no_less n v (omega arith) (omega arith), P.at_least_lem v h, before_day t₀ ts v)
+          | inl e ↦ omega (arith, e, no_less n v (omega arith) (omega arith), P.at_least v h, before_day t₀ ts v)
           | inr e ↦ omega (arith, e, no_less n e.0 (omega arith) (omega arith), before_run t₀ ws ts e.0 (suc v) P.assigned (omega arith))
         ]
 

@@ -63,4 +63,4 @@ pub shortage_excludes : ShortageExcludes
 shortage_excludes t₀ pairs ws marks ts h P =
     let S = in_set t₀ marks in
     let d = length pairs in
-    omega (arith, needs_chosen S t₀ (fewest pairs) ts d P.at_least_lem, chosen_meet S ws ts (t₀ + d) P.assigned)
+    omega (arith, needs_chosen S t₀ (fewest pairs) ts d P.at_least, chosen_meet S ws ts (t₀ + d) P.assigned)

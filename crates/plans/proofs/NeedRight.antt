@@ -104,7 +104,7 @@ module _ (t₀ d : ℕ) (ls us : ℕ → ℕ) (ws : List Window) (ts : List ℕ)
       elim (cases_lt v d) [
         | inr k ↦ let e : v ≡ d = omega arith in rw e (omega (arith, K.end, before_all ws ts (t₀ + d) P.assigned))
         | inl k ↦ elim (K.attained v k) [
-          | inl e ↦ omega (arith, e, after n (suc v) (omega arith) k, before_day t₀ ts v, P.at_least_lem v k)
+          | inl e ↦ omega (arith, e, after n (suc v) (omega arith) k, before_day t₀ ts v, P.at_least v k)
           | inr e ↦ omega (arith, e.3, after n e.0 (omega arith) e.2, before_run t₀ ws ts v e.0 P.assigned (omega arith))
         ]
       ]

@@ -7,7 +7,7 @@ use Rattle.calendar.proofs.layer.calls.covers.Goals as goal
 pub returns-then-day-last : goal.returns-then-day-last
 returns-then-day-last c =
     let runs = c.args.runs.now in
-    let i = c.loop-run.run_index in
+    let i = c.loop-run.run-index in
     let d = c.args.day in
     let run = get_or runs i (0, 0) in
     let step : in_runs (drop i runs) d ≡ ((leb run.0 d && leb d run.1) || in_runs (drop (i + 1) runs) d) = at_drop_more (λ rs. in_runs rs d) runs i (0, 0) c.loop-run-test.true in
@@ -17,7 +17,7 @@ returns-then-day-last c =
 pub loop-run-preserved : goal.loop-run-preserved
 loop-run-preserved c =
     let runs = c.args.runs.now in
-    let i = c.loop-run.run_index in
+    let i = c.loop-run.run-index in
     let d = c.args.day in
     let run = get_or runs i (0, 0) in
     let step : in_runs (drop i runs) d ≡ ((leb run.0 d && leb d run.1) || in_runs (drop (i + 1) runs) d) = at_drop_more (λ rs. in_runs rs d) runs i (0, 0) c.loop-run-test.true in
@@ -26,4 +26,4 @@ loop-run-preserved c =
 
 pub returns : goal.returns
 returns c =
-    sym (at_drop_all (λ rs. in_runs rs c.args.day) c.args.runs.now c.loop-run.run_index c.loop-run-test.false) ∙ c.loop-run.invariant
+    sym (at_drop_all (λ rs. in_runs rs c.args.day) c.args.runs.now c.loop-run.run-index c.loop-run-test.false) ∙ c.loop-run.invariant
