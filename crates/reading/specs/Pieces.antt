@@ -55,4 +55,4 @@ line_end sheet p = cond (nat_lt p (length sheet)) (p + length (piece_at 10 sheet
 
 -- l is that very part of s, in memory, which begins at place p
 abbrev pub PartAt : Bor (List ℕ) → ℕ → Bor (List ℕ) → Type 0
-PartAt s p l = (l.ptr.0 ≡ s.ptr.0) × (l.ptr.1 ≡ s.ptr.1 + p)
+PartAt s p l = (l.ref_ptr.0 ≡ s.ref_ptr.0) × (l.ref_ptr.1 ≡ s.ref_ptr.1 + p)

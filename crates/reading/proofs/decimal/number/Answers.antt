@@ -5,15 +5,15 @@ use Rattle.reading.specs.Steps.{step_of}
 use Rattle.reading.proofs.Decimals.{reading, go_on, reading_more, fit_reading, step_within}
 use Rattle.reading.proofs.decimal.number.Goals as goal
 
-pub returns-in-err-n : goal.returns-in-err-n
-returns-in-err-n c =
+pub returns-in_err-n : goal.returns-in_err-n
+returns-in_err-n c =
     let bs = c.args.bytes.now in
     let i = c.loop-b.b-index in
     let n = c.loop-b.n in
     let later = drop (i + 1) bs in
     let more : reading n (drop i bs) ≡ go_on (step_of n (get_or bs i 0)) (λ k. reading k later) = ap (reading n) (drop_more bs i 0 c.loop-b-test.true) ∙ reading_more n (get_or bs i 0) later in
-    let none : step_of n (get_or bs i 0) ≡ None = sym c.step.ensures ∙ c.in-err-n.was in
-    c.from-residual.ensures ∙ sym (fit_reading bs c.loop-b.invariant.1 ∙ sym c.loop-b.invariant.0 ∙ more ∙ ap (λ o. go_on o (λ k. reading k later)) none)
+    let none : step_of n (get_or bs i 0) ≡ None = sym c.step.ensures ∙ c.in_err-n.was in
+    c.from_residual.ensures ∙ sym (fit_reading bs c.loop-b.invariant.1 ∙ sym c.loop-b.invariant.0 ∙ more ∙ ap (λ o. go_on o (λ k. reading k later)) none)
 
 pub loop-b-preserved : goal.loop-b-preserved
 loop-b-preserved c =
@@ -22,7 +22,7 @@ loop-b-preserved c =
     let n = c.loop-b.n in
     let later = drop (i + 1) bs in
     let more : reading n (drop i bs) ≡ go_on (step_of n (get_or bs i 0)) (λ k. reading k later) = ap (reading n) (drop_more bs i 0 c.loop-b-test.true) ∙ reading_more n (get_or bs i 0) later in
-    let some : step_of n (get_or bs i 0) ≡ Some c.in-ok-n.n = sym c.step.ensures ∙ c.in-ok-n.was in
+    let some : step_of n (get_or bs i 0) ≡ Some c.in_ok-n.n = sym c.step.ensures ∙ c.in_ok-n.was in
     (sym (ap (λ o. go_on o (λ k. reading k later)) some) ∙ sym more ∙ c.loop-b.invariant.0, c.loop-b.invariant.1, step_within n (get_or bs i 0) _ some)
 
 pub returns : goal.returns

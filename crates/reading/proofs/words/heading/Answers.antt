@@ -12,11 +12,11 @@ returns-in-Letter c =
     let line = c.args.line.now in
     let all = c.new-fields.ensures.left in
     let is = ap told c.in-Letter.is in
-    let field = c.in-ok-letter.ensures.field in
+    let field = c.in_ok-letter.ensures.field in
     let some : Some (letter c.in-Letter.column c.in-Letter.letter) ≡ first (words line) = cc in
     let are = first_some (words line) (letter c.in-Letter.column c.in-Letter.letter) some in
     let heads = ap lettered are in
-    let left = c.next-field.ensures.left in
-    let short = cond-true (leb (length line) 200) (lettered (words line)) None (le-leb (length line) 200 c.if-line-gt-LINE-BYTES.false) in
+    let left = c.next_field.ensures.left in
+    let short = cond-true (leb (length line) 200) (lettered (words line)) None (le-leb (length line) 200 c.if-line-gt-LINE_BYTES.false) in
     let later = ap rest all in
-    record { value = cc; few = omega (arith, c.if-line-gt-LINE-BYTES.false, ap length left, ap length later, ap length are, length_columns 1 (parts line), pieces_few 32 line) }
+    record { value = cc; few = omega (arith, c.if-line-gt-LINE_BYTES.false, ap length left, ap length later, ap length are, length_columns 1 (parts line), pieces_few 32 line) }

@@ -13,10 +13,10 @@ loop-field-preserved c =
     let len = c.loop-field.len in
     let n = c.in-Number.number in
     let left = fields_left c.loop-field.fields in
-    let left' = fields_left c.next-field.new.self in
+    let left' = fields_left c.next_field.new.self in
     let is : told c.in-Some.field ≡ number c.in-Number.column n = ap told c.in-Number.is in
     let all : left ≡ number c.in-Number.column n ∷ left' =
-    first_some left _ (sym (ap Some is) ∙ c.in-Some.ensures.field) ∙ ap (λ ws. number c.in-Number.column n ∷ ws) (sym c.next-field.ensures.left) in
+    first_some left _ (sym (ap Some is) ∙ c.in-Some.ensures.field) ∙ ap (λ ws. number c.in-Number.column n ∷ ws) (sym c.next_field.ensures.left) in
     let room : len < length vals = omega (arith, c.loop-field.invariant.1, c.loop-field.invariant.2, ap length all) in
     let here : values left ≡ with_first n (values left') = ap values all in (
       ap (λ ns. in_front ns (values left')) (take_more_set vals len n room) ∙ in_front_more (take len vals) n (values left') ∙ ap (in_front (take len vals)) (sym here) ∙ c.loop-field.invariant.0,
@@ -27,6 +27,6 @@ loop-field-preserved c =
 pub returns : goal.returns
 returns c =
     let vals = take c.loop-field.len c.loop-field.values in
-    let none = first_none (fields_left c.loop-field.fields) c.in-default.ensures.field in
+    let none = first_none (fields_left c.loop-field.fields) c.in_default.ensures.field in
     let all : Ok vals ≡ values (fields_left c.args.fields) = ap Ok (sym (append-nil vals)) ∙ sym (ap (λ ws. in_front vals (values ws)) none) ∙ c.loop-field.invariant.0 in
     record { value = all; count = values_length (fields_left c.args.fields) vals (sym all) }

@@ -4,8 +4,8 @@ use Rattle.reading.specs.Pieces.{parts}
 use Rattle.reading.proofs.Cuts.{pieces_few, length_words, no_words_at}
 use Rattle.reading.proofs.words.Fields.left.Goals as goal
 
-pub overflow-add-result : goal.overflow-add-result
-overflow-add-result c =
+pub overflow_add-result : goal.overflow_add-result
+overflow_add-result c =
     let self = c.args.self.now in
     let rest = drop self.place self.line.now in
     let one = c.spaces.ensures ∙ ap (λ l. length (parts l)) (take_rest self.line.now self.place) in

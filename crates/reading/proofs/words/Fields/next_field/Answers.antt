@@ -13,10 +13,10 @@ returns c =
     let next = ap first at in
     let later = ap rest at in
     let value = c.piece-bytes.ensures.value in
-    let told = c.read-field.ensures.value in
+    let told = c.read_field.ensures.value in
     record {
       line = refl;
       field = cc;
-      part = c.read-field.ensures.part self.line (c.piece-bytes.ensures.part.0, c.piece-bytes.ensures.part.1 ∙ one_back _ self.place);
+      part = c.read_field.ensures.part self.line (c.piece-bytes.ensures.part.0, c.piece-bytes.ensures.part.1 ∙ one_back _ self.place);
       left = cc;
     }
