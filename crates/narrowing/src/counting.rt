@@ -20,10 +20,10 @@ pub(crate) fn row(table: &[u16], last: usize) -> &[u16]
 // Counts the windows by their first and last day.
 fn tally<R: Record>(day: u16, records: &[R], table: &mut [u16])
     requires records_len_bound { length records.now ≤ 512 }
-    requires within { Within day 128 (map span records.now) }
+    requires within { Within day 128 (map R.span records.now) }
     requires table_len { length table.old ≡ 16384 }
     requires blank { Blank table.old }
-    ensures { Tallied day (map span records.now) table.new }
+    ensures { Tallied day (map R.span records.now) table.new }
 {
     for each in records {
         let (first, last) = each.window();
@@ -51,10 +51,10 @@ fn add_row(row: &mut [u16], sums: &mut [u16])
 pub(crate) fn count_runs<R: Record>(day: u16, records: &[R], days: usize, table: &mut [u16])
     requires records_len_bound { length records.now ≤ 512 }
     requires days_bound { days ≤ 128 }
-    requires within { Within day days (map span records.now) }
+    requires within { Within day days (map R.span records.now) }
     requires table_len { length table.old ≡ 16384 }
     requires blank { Blank table.old }
-    ensures { Counted day days (map span records.now) table.new }
+    ensures { Counted day days (map R.span records.now) table.new }
 {
     tally(day, records, table);
     let mut sums = [0u16; MOST_DAYS];

@@ -22,9 +22,9 @@ fn judge<R: Record>(
     requires pairs_len_bound { length pairs.now ≤ 128 }
     requires pairs_in_bounds { length pairs.now ≤ length marks.old }
     requires records_len_bound { length records.now ≤ 512 }
-    requires proper { Proper first pairs.now (map span records.now) }
-    ensures answer { result ≡ told (reply first pairs.now (map span records.now) (take (length pairs.now) marks.new)) }
-    ensures marks { Marked first pairs.now (map span records.now) marks.old marks.new (reply first pairs.now (map span records.now) (take (length pairs.now) marks.new)) }
+    requires proper { Proper first pairs.now (map R.span records.now) }
+    ensures answer { result ≡ told (reply first pairs.now (map R.span records.now) (take (length pairs.now) marks.new)) }
+    ensures marks { Marked first pairs.now (map R.span records.now) marks.old marks.new (reply first pairs.now (map R.span records.now) (take (length pairs.now) marks.new)) }
 {
     let days = pairs.len();
     let mut table = [0u16; CELLS];
@@ -59,9 +59,9 @@ pub fn verdict<R: Record>(
     records: &[R],
     marks: &mut [u8],
 ) -> Result<(), NarrowingFault>
-    ensures answer { result ≡ verdict_of first pairs.now (map span records.now) (length marks.old) (take (length pairs.now) marks.new) }
-    ensures marks { MarksAfter first pairs.now (map span records.now) marks.old marks.new }
-    ensures means { checked first pairs.now (map span records.now) (length marks.old) ≡ Ok tt → VerdictMeans first pairs.now (map span records.now) result }
+    ensures answer { result ≡ verdict_of first pairs.now (map R.span records.now) (length marks.old) (take (length pairs.now) marks.new) }
+    ensures marks { MarksAfter first pairs.now (map R.span records.now) marks.old marks.new }
+    ensures means { checked first pairs.now (map R.span records.now) (length marks.old) ≡ Ok tt → VerdictMeans first pairs.now (map R.span records.now) result }
 {
     check(first, pairs, records, marks.len())?;
     judge(first, pairs, records, marks)

@@ -22,5 +22,5 @@ pub fn narrowed_twice()
 
 // Putting records into windows changes nothing else of them.
 pub fn rest_stays<R: Record>()
-    ensures { (rs : List R) (ws : List Window) → length ws ≡ length rs → RestStays span put rs ws }
+    ensures { (rs : List R) (ws : List Window) → length ws ≡ length rs → RestStays R.span R.put rs ws }
 {}

@@ -21,9 +21,9 @@ use records::{NarrowingFault, Record};
 // Puts each record into the window that the table gives for its own.
 fn put_windows<R: Record>(day: u16, table: &[u8], records: &mut [R])
     requires table_len { length table.now ≡ 16384 }
-    requires within { Within day 128 (map span records.old) }
-    requires shorter { Shorter day table.now (map span records.old) }
-    ensures { records.new ≡ placed put (map (found day table.now) (map span records.old)) records.old }
+    requires within { Within day 128 (map R.span records.old) }
+    requires shorter { Shorter day table.now (map R.span records.old) }
+    ensures { records.new ≡ placed R.put (map (found day table.now) (map R.span records.old)) records.old }
 {
     for each in records.iter_mut() {
         let (first, last) = each.window();
@@ -47,12 +47,12 @@ fn narrow_counted<R: Record>(
 )
     requires pairs_len_bound { (length pairs.now ≤ 128) × (length records.old ≤ 512) }
     requires table_len { (length table.now ≡ 16384) × (length before.now ≡ 129) × (length left.now ≡ 129) }
-    requires proper { Proper first pairs.now (map span records.old) }
-    requires by_index { (ts : List ℕ) × Plan first pairs.now (map span records.old) ts }
-    requires counted { Counted first (length pairs.now) (map span records.old) table.now }
+    requires proper { Proper first pairs.now (map R.span records.old) }
+    requires by_index { (ts : List ℕ) × Plan first pairs.now (map R.span records.old) ts }
+    requires counted { Counted first (length pairs.now) (map R.span records.old) table.now }
     requires summed { Summed pairs.now before.now }
-    requires need_left { NeedLeft first (length pairs.now) (fewest pairs.now) (map span records.old) (tabled left.now) }
-    ensures { records.new ≡ placed put (narrowed first pairs.now (map span records.old)) records.old }
+    requires need_left { NeedLeft first (length pairs.now) (fewest pairs.now) (map R.span records.old) (tabled left.now) }
+    ensures { records.new ≡ placed R.put (narrowed first pairs.now (map R.span records.old)) records.old }
 {
     let days = pairs.len();
     let mut right = [0u32; EDGES];
@@ -78,9 +78,9 @@ fn narrow_counted<R: Record>(
 // Narrows where there is a plan.
 fn narrow_ready<R: Record>(first: u16, pairs: &[(u16, u16)], records: &mut [R])
     requires pairs_len_bound { (length pairs.now ≤ 128) × (length records.old ≤ 512) }
-    requires proper { Proper first pairs.now (map span records.old) }
-    requires by_index { (ts : List ℕ) × Plan first pairs.now (map span records.old) ts }
-    ensures { records.new ≡ placed put (narrowed first pairs.now (map span records.old)) records.old }
+    requires proper { Proper first pairs.now (map R.span records.old) }
+    requires by_index { (ts : List ℕ) × Plan first pairs.now (map R.span records.old) ts }
+    ensures { records.new ≡ placed R.put (narrowed first pairs.now (map R.span records.old)) records.old }
 {
     let mut table = [0u16; CELLS];
     count_runs(first, records, pairs.len(), &mut table);
@@ -99,10 +99,10 @@ pub fn narrow<R: Record>(
     records: &mut [R],
     marks: &mut [u8],
 ) -> Result<(), NarrowingFault>
-    ensures answer { result ≡ verdict_of first pairs.now (map span records.old) (length marks.old) (take (length pairs.now) marks.new) }
-    ensures marks { MarksAfter first pairs.now (map span records.old) marks.old marks.new }
-    ensures records { records.new ≡ narrow_of put first pairs.now (map span records.old) result records.old }
-    ensures means { result ≡ Ok tt → Narrowest first pairs.now (map span records.old) (map span records.new) }
+    ensures answer { result ≡ verdict_of first pairs.now (map R.span records.old) (length marks.old) (take (length pairs.now) marks.new) }
+    ensures marks { MarksAfter first pairs.now (map R.span records.old) marks.old marks.new }
+    ensures records { records.new ≡ narrow_of R.put first pairs.now (map R.span records.old) result records.old }
+    ensures means { result ≡ Ok tt → Narrowest first pairs.now (map R.span records.old) (map R.span records.new) }
 {
     verdict(first, pairs, records, marks)?;
     narrow_ready(first, pairs, records);

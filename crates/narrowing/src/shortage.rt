@@ -65,8 +65,8 @@ pub(crate) fn count_meeting<R: Record>(day: u16, records: &[R], marks: &[u8]) ->
     requires records_len_bound { length records.now ≤ 512 }
     requires marks_len_bound { length marks.now ≤ 128 }
     requires marks { Marks (length marks.now) marks.now }
-    requires within { Within day (length marks.now) (map span records.now) }
-    ensures { result ≡ meeting day marks.now (map span records.now) }
+    requires within { Within day (length marks.now) (map R.span records.now) }
+    ensures { result ≡ meeting day marks.now (map R.span records.now) }
 {
     let mut before = [0u16; EDGES];
     sum_marks(marks, &mut before);

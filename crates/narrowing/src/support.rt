@@ -96,7 +96,7 @@ impl Closed<'_> {
 // Copies the windows of the records to the front of a list.
 fn copy_windows<R: Record>(records: &[R], work: &mut [Window])
     requires { length records.now ≤ length work.old }
-    ensures { work.new ≡ copied (map span records.now) work.old }
+    ensures { work.new ≡ copied (map R.span records.now) work.old }
 {
     for i in 0..records.len() {
         let (first, last) = records[i].window();
@@ -170,9 +170,9 @@ pub fn supports<R: Record>(
     day: u16,
     work: &mut [Window],
 ) -> Result<bool, SupportFault>
-    ensures answer { result ≡ support_of first pairs.now (map span records.now) place day (length work.old) }
-    ensures work { work.new ≡ work_after result (map span records.now) work.old }
-    ensures means { (b : Bool) → result ≡ Ok b → (b ≡ true) ↔ Possible first pairs.now (map span records.now) place day }
+    ensures answer { result ≡ support_of first pairs.now (map R.span records.now) place day (length work.old) }
+    ensures work { work.new ≡ work_after result (map R.span records.now) work.old }
+    ensures means { (b : Bool) → result ≡ Ok b → (b ≡ true) ↔ Possible first pairs.now (map R.span records.now) place day }
 {
     check(first, pairs, records, pairs.len())?;
     if !is_askable(first, pairs.len(), records.len(), place, day, work.len()) {

@@ -12,8 +12,8 @@ pub fn first_plan<R: Record>(
     pairs: &[(u16, u16)],
     records: &[R],
 ) -> Result<Option<[u16; MOST_RECORDS]>, NarrowingFault>
-    ensures answer { result ≡ planned_of first pairs.now (map span records.now) }
-    ensures means { PlannedMeans first pairs.now (map span records.now) result }
+    ensures answer { result ≡ planned_of first pairs.now (map R.span records.now) }
+    ensures means { PlannedMeans first pairs.now (map R.span records.now) result }
 {
     check(first, pairs, records, pairs.len())?;
     let mut windows = windows_of(records);

@@ -9,7 +9,7 @@ use records::{Record, Window};
 // The windows of the records, at the front of a list.
 pub fn windows_of<R: Record>(records: &[R]) -> [Window; MOST_RECORDS]
     requires { length records.now ≤ 512 }
-    ensures { result ≡ windows_at (map span records.now) }
+    ensures { result ≡ windows_at (map R.span records.now) }
 {
     let mut windows = [Window { first: 0, last: 0 }; MOST_RECORDS];
     for i in 0..records.len() {

@@ -39,7 +39,7 @@ fn lies_within(day: u16, days: usize, window: (u16, u16)) -> bool
 
 // The first place whose window does not.
 fn first_bad_window<R: Record>(day: u16, days: usize, records: &[R]) -> Option<usize>
-    ensures { result ≡ failing (stands day days) 0 (map span records.now) }
+    ensures { result ≡ failing (stands day days) 0 (map R.span records.now) }
 {
     for (i, each) in records.iter().enumerate() {
         if !lies_within(day, days, each.window()) {
@@ -51,7 +51,7 @@ fn first_bad_window<R: Record>(day: u16, days: usize, records: &[R]) -> Option<u
 
 // First how many records there are, then their windows.
 fn check_records<R: Record>(first: u16, days: usize, records: &[R]) -> Result<(), NarrowingFault>
-    ensures { result ≡ past (number_check (map span records.now)) (windows_check first days (map span records.now)) }
+    ensures { result ≡ past (number_check (map R.span records.now)) (windows_check first days (map R.span records.now)) }
 {
     if records.len() > MOST_RECORDS {
         return Err(NarrowingFault::TooManyRecords);
@@ -69,7 +69,7 @@ pub fn check<R: Record>(
     records: &[R],
     marks: usize,
 ) -> Result<(), NarrowingFault>
-    ensures { result ≡ checked first pairs.now (map span records.now) marks }
+    ensures { result ≡ checked first pairs.now (map R.span records.now) marks }
 {
     check_range(first, pairs.len(), marks)?;
     check_pairs(first, pairs)?;

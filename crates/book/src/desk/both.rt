@@ -16,8 +16,8 @@ use state::BookFault;
 impl<C: Calendar, M: Mode> Desk<C, M> {
     // Holds a new order.
     pub fn admit(&mut self, number: u16, asked: Window, marks: &mut [u8]) -> Result<(), BookFault>
-        ensures told { Edits (C.Calendar.told self.old.calendar) (ledger_of self.old.state) (Edit.admit number asked.first asked.last) result marks.old marks.new }
-        ensures life { life_of self.new.state (M.Mode.begun self.new.mode) ≡ after (C.Calendar.told self.old.calendar) (life_of self.old.state (M.Mode.begun self.old.mode)) (Call.edit (Edit.admit number asked.first asked.last) (length marks.old)) }
+        ensures told { Edits (C.told self.old.calendar) (ledger_of self.old.state) (Edit.admit number asked.first asked.last) result marks.old marks.new }
+        ensures life { life_of self.new.state (M.begun self.new.mode) ≡ after (C.told self.old.calendar) (life_of self.old.state (M.begun self.old.mode)) (Call.edit (Edit.admit number asked.first asked.last) (length marks.old)) }
         ensures same { self.new.calendar ≡ self.old.calendar }
     {
         self.state.admit(&self.calendar, number, asked, marks)
@@ -25,8 +25,8 @@ impl<C: Calendar, M: Mode> Desk<C, M> {
 
     // Gives an order another window.
     pub fn change(&mut self, number: u16, asked: Window, marks: &mut [u8]) -> Result<(), BookFault>
-        ensures told { Edits (C.Calendar.told self.old.calendar) (ledger_of self.old.state) (Edit.change number asked.first asked.last) result marks.old marks.new }
-        ensures life { life_of self.new.state (M.Mode.begun self.new.mode) ≡ after (C.Calendar.told self.old.calendar) (life_of self.old.state (M.Mode.begun self.old.mode)) (Call.edit (Edit.change number asked.first asked.last) (length marks.old)) }
+        ensures told { Edits (C.told self.old.calendar) (ledger_of self.old.state) (Edit.change number asked.first asked.last) result marks.old marks.new }
+        ensures life { life_of self.new.state (M.begun self.new.mode) ≡ after (C.told self.old.calendar) (life_of self.old.state (M.begun self.old.mode)) (Call.edit (Edit.change number asked.first asked.last) (length marks.old)) }
         ensures same { self.new.calendar ≡ self.old.calendar }
     {
         self.state.change(&self.calendar, number, asked, marks)
@@ -34,8 +34,8 @@ impl<C: Calendar, M: Mode> Desk<C, M> {
 
     // Takes an order out; its number may be used again.
     pub fn withdraw(&mut self, number: u16, marks: &mut [u8]) -> Result<(), BookFault>
-        ensures told { Edits (C.Calendar.told self.old.calendar) (ledger_of self.old.state) (Edit.withdraw number) result marks.old marks.new }
-        ensures life { life_of self.new.state (M.Mode.begun self.new.mode) ≡ after (C.Calendar.told self.old.calendar) (life_of self.old.state (M.Mode.begun self.old.mode)) (Call.edit (Edit.withdraw number) (length marks.old)) }
+        ensures told { Edits (C.told self.old.calendar) (ledger_of self.old.state) (Edit.withdraw number) result marks.old marks.new }
+        ensures life { life_of self.new.state (M.begun self.new.mode) ≡ after (C.told self.old.calendar) (life_of self.old.state (M.begun self.old.mode)) (Call.edit (Edit.withdraw number) (length marks.old)) }
         ensures same { self.new.calendar ≡ self.old.calendar }
     {
         self.state.withdraw(&self.calendar, number, marks)
@@ -43,8 +43,8 @@ impl<C: Calendar, M: Mode> Desk<C, M> {
 
     // Makes a day lit.
     pub fn light(&mut self, day: u16, marks: &mut [u8]) -> Result<(), BookFault>
-        ensures told { Edits (C.Calendar.told self.old.calendar) (ledger_of self.old.state) (Edit.light day) result marks.old marks.new }
-        ensures life { life_of self.new.state (M.Mode.begun self.new.mode) ≡ after (C.Calendar.told self.old.calendar) (life_of self.old.state (M.Mode.begun self.old.mode)) (Call.edit (Edit.light day) (length marks.old)) }
+        ensures told { Edits (C.told self.old.calendar) (ledger_of self.old.state) (Edit.light day) result marks.old marks.new }
+        ensures life { life_of self.new.state (M.begun self.new.mode) ≡ after (C.told self.old.calendar) (life_of self.old.state (M.begun self.old.mode)) (Call.edit (Edit.light day) (length marks.old)) }
         ensures same { self.new.calendar ≡ self.old.calendar }
     {
         self.state.light(&self.calendar, day, marks)
@@ -52,8 +52,8 @@ impl<C: Calendar, M: Mode> Desk<C, M> {
 
     // Makes a day unlit.
     pub fn douse(&mut self, day: u16) -> Result<(), BookFault>
-        ensures told { douse_reply result ≡ reply (C.Calendar.told self.old.calendar) (ledger_of self.old.state) (Call.douse day) [] }
-        ensures life { life_of self.new.state (M.Mode.begun self.new.mode) ≡ after (C.Calendar.told self.old.calendar) (life_of self.old.state (M.Mode.begun self.old.mode)) (Call.douse day) }
+        ensures told { douse_reply result ≡ reply (C.told self.old.calendar) (ledger_of self.old.state) (Call.douse day) [] }
+        ensures life { life_of self.new.state (M.begun self.new.mode) ≡ after (C.told self.old.calendar) (life_of self.old.state (M.begun self.old.mode)) (Call.douse day) }
         ensures same { self.new.calendar ≡ self.old.calendar }
     {
         self.state.douse(&self.calendar, day)
@@ -61,14 +61,14 @@ impl<C: Calendar, M: Mode> Desk<C, M> {
 
     // The first and the last day that an order has in any plan.
     pub fn window(&self, number: u16) -> Result<(u16, u16), BookFault>
-        ensures { window_reply result ≡ reply (C.Calendar.told self.now.calendar) (ledger_of self.now.state) (Call.window number) [] }
+        ensures { window_reply result ≡ reply (C.told self.now.calendar) (ledger_of self.now.state) (Call.window number) [] }
     {
         self.state.window(&self.calendar, number)
     }
 
     // Whether some plan gives an order a day.
     pub fn probe(&self, number: u16, day: u16) -> Result<bool, BookFault>
-        ensures { probe_reply result ≡ reply (C.Calendar.told self.now.calendar) (ledger_of self.now.state) (Call.probe number day) [] }
+        ensures { probe_reply result ≡ reply (C.told self.now.calendar) (ledger_of self.now.state) (Call.probe number day) [] }
     {
         self.state.probe(&self.calendar, number, day)
     }
@@ -76,7 +76,7 @@ impl<C: Calendar, M: Mode> Desk<C, M> {
     // Writes a day for each held order, by ascending number: of all plans the one whose list of days comes first. Tells how
     // many; later entries of the list stay.
     pub fn plan(&self, list: &mut [u16]) -> Result<usize, BookFault>
-        ensures { Lists (C.Calendar.told self.now.calendar) (ledger_of self.now.state) (Call.plan (length list.old)) result (plan_reply result list.new) list.old list.new }
+        ensures { Lists (C.told self.now.calendar) (ledger_of self.now.state) (Call.plan (length list.old)) result (plan_reply result list.new) list.old list.new }
     {
         self.state.plan(&self.calendar, list)
     }

@@ -27,8 +27,8 @@ impl<C: Calendar> Desk<C, Live> {
     // Lets out the orders that the plan puts on today, writes their numbers in ascending order and tells how many; then it is
     // the next day. Later entries of the list stay.
     pub fn turn(&mut self, list: &mut [u16]) -> Result<usize, BookFault>
-        ensures told { Lists (C.Calendar.told self.old.calendar) (ledger_of self.old.state) (Call.turn (length list.old)) result (turn_reply result list.new) list.old list.new }
-        ensures life { life_of self.new.state None ≡ after (C.Calendar.told self.old.calendar) (life_of self.old.state None) (Call.turn (length list.old)) }
+        ensures told { Lists (C.told self.old.calendar) (ledger_of self.old.state) (Call.turn (length list.old)) result (turn_reply result list.new) list.old list.new }
+        ensures life { life_of self.new.state None ≡ after (C.told self.old.calendar) (life_of self.old.state None) (Call.turn (length list.old)) }
         ensures same { self.new.calendar ≡ self.old.calendar }
     {
         self.state.turn(&self.calendar, list)
@@ -36,7 +36,7 @@ impl<C: Calendar> Desk<C, Live> {
 
     // Makes the book into a trial.
     pub fn begin(self) -> Desk<C, Trying>
-        ensures life { life_of result.state (begun_in result.mode) ≡ after (C.Calendar.told self.calendar) (life_of self.state None) Call.begin }
+        ensures life { life_of result.state (begun_in result.mode) ≡ after (C.told self.calendar) (life_of self.state None) Call.begin }
         ensures same { result.calendar ≡ self.calendar }
     {
         let begun = self.state;
@@ -51,7 +51,7 @@ impl<C: Calendar> Desk<C, Live> {
 impl<C: Calendar> Desk<C, Trying> {
     // The trial becomes a book as it is.
     pub fn keep(self) -> Desk<C, Live>
-        ensures life { life_of result.state None ≡ after (C.Calendar.told self.calendar) (life_of self.state (begun_in self.mode)) Call.keep }
+        ensures life { life_of result.state None ≡ after (C.told self.calendar) (life_of self.state (begun_in self.mode)) Call.keep }
         ensures same { result.calendar ≡ self.calendar }
     {
         Desk {
@@ -63,7 +63,7 @@ impl<C: Calendar> Desk<C, Trying> {
 
     // The trial becomes the book that began it.
     pub fn undo(self) -> Desk<C, Live>
-        ensures life { life_of result.state None ≡ after (C.Calendar.told self.calendar) (life_of self.state (begun_in self.mode)) Call.undo }
+        ensures life { life_of result.state None ≡ after (C.told self.calendar) (life_of self.state (begun_in self.mode)) Call.undo }
         ensures same { result.calendar ≡ self.calendar }
     {
         Desk {

@@ -66,7 +66,7 @@ impl<C: Calendar> Closing<C> {
     pub fn new(below: C, runs: &[(u16, u16)]) -> Closing<C>
         ensures below { below_of result ≡ below }
         ensures runs { runs_of result ≡ kept_runs (closing_check runs.now) runs.now }
-        ensures asked { closing_check runs.now ≡ Ok tt → AsClosing runs.now (C.Calendar.told below) (closed (runs_of result) (C.Calendar.told (below_of result))) }
+        ensures asked { closing_check runs.now ≡ Ok tt → AsClosing runs.now (C.told below) (closed (runs_of result) (C.told (below_of result))) }
     {
         let Ok(()) = Closing::<C>::check(runs) else {
             return Closing {
@@ -98,9 +98,9 @@ impl<C: Calendar> Closing<C> {
 }
 
 impl<C: Calendar> Calendar for Closing<C> {
-    ghost told = { λ c. closed (runs_of c) (C.Calendar.told (below_of c)) };
+    ghost told = { λ c. closed (runs_of c) (C.told (below_of c)) };
 
-    ghost sound = { λ c t h. sound_closed (runs_of c) (C.Calendar.told (below_of c)) t (C.Calendar.sound c.below t h) };
+    ghost sound = { λ c t h. sound_closed (runs_of c) (C.told (below_of c)) t (C.sound c.below t h) };
 
     fn pair(&self, day: u16) -> (u16, u16) {
         if self.closes(day) {

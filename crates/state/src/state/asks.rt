@@ -17,8 +17,8 @@ use records::limits::MOST_RECORDS;
 impl State {
     // The same state, its orders told their days; refused where there is no plan.
     fn weighed<C: Calendar>(&self, calendar: &C, subject: u16) -> Result<State, BookFault>
-        ensures refusal { refusal_in result ≡ quiet subject (weigh_ledger (C.Calendar.told calendar.now) (ledger_of self.now) []) }
-        ensures told { Told (C.Calendar.told calendar.now) (ledger_of self.now) result }
+        ensures refusal { refusal_in result ≡ quiet subject (weigh_ledger (C.told calendar.now) (ledger_of self.now) []) }
+        ensures told { Told (C.told calendar.now) (ledger_of self.now) result }
     {
         let mut told = *self;
         let mut marks = [0; HORIZON];
@@ -33,7 +33,7 @@ impl State {
 
     // The first and the last day of an order in any plan.
     pub fn window<C: Calendar>(&self, calendar: &C, number: u16) -> Result<(u16, u16), BookFault>
-        ensures { window_reply result ≡ reply (C.Calendar.told calendar.now) (ledger_of self.now) (Call.window number) [] }
+        ensures { window_reply result ≡ reply (C.told calendar.now) (ledger_of self.now) (Call.window number) [] }
     {
         if !self.holds(number) {
             return Err(refused(Check::NumberUnknown, number));
@@ -47,7 +47,7 @@ impl State {
 
     // Whether some plan gives an order a day.
     pub fn probe<C: Calendar>(&self, calendar: &C, number: u16, day: u16) -> Result<bool, BookFault>
-        ensures { probe_reply result ≡ reply (C.Calendar.told calendar.now) (ledger_of self.now) (Call.probe number day) [] }
+        ensures { probe_reply result ≡ reply (C.told calendar.now) (ledger_of self.now) (Call.probe number day) [] }
     {
         let Some(place) = self.table.find(number) else {
             return Err(refused(Check::NumberUnknown, number));
@@ -69,8 +69,8 @@ impl State {
         calendar: &C,
         subject: u16,
     ) -> Result<[u16; MOST_RECORDS], BookFault>
-        ensures refusal { refusal_in result ≡ quiet subject (weigh_ledger (C.Calendar.told calendar.now) (ledger_of self.now) []) }
-        ensures planned { Planned (C.Calendar.told calendar.now) (ledger_of self.now) result }
+        ensures refusal { refusal_in result ≡ quiet subject (weigh_ledger (C.told calendar.now) (ledger_of self.now) []) }
+        ensures planned { Planned (C.told calendar.now) (ledger_of self.now) result }
     {
         let _ = self.weighed(calendar, subject)?;
         let pairs = self.pairs(calendar);
@@ -85,7 +85,7 @@ impl State {
 
     // Writes a day for each held order: of all plans the one whose list of days comes first. Tells how many days.
     pub fn plan<C: Calendar>(&self, calendar: &C, list: &mut [u16]) -> Result<usize, BookFault>
-        ensures { Lists (C.Calendar.told calendar.now) (ledger_of self.now) (Call.plan (length list.old)) result (plan_reply result list.new) list.old list.new }
+        ensures { Lists (C.told calendar.now) (ledger_of self.now) (Call.plan (length list.old)) result (plan_reply result list.new) list.old list.new }
     {
         about(self.today, self.check_plan(list.len()))?;
         let days = self.planned(calendar, self.today)?;

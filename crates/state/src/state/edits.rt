@@ -84,7 +84,7 @@ impl State {
         marks: &mut [u8],
     ) -> Result<(), BookFault>
         requires { 56 ≤ length marks.old }
-        ensures { Settles (C.Calendar.told calendar.now) (ledger_of self.old) (ledger_of next) subject result marks.old marks.new (ledger_of self.new) }
+        ensures { Settles (C.told calendar.now) (ledger_of self.old) (ledger_of next) subject result marks.old marks.new (ledger_of self.new) }
     {
         let mut next = next;
         match next.weigh(calendar, marks) {
@@ -107,8 +107,8 @@ impl State {
         asked: Window,
         marks: &mut [u8],
     ) -> Result<(), BookFault>
-        ensures told { Edits (C.Calendar.told calendar.now) (ledger_of self.old) (Edit.admit number asked.first asked.last) result marks.old marks.new }
-        ensures ledger { ledger_of self.new ≡ ledger_after (C.Calendar.told calendar.now) (ledger_of self.old) (Call.edit (Edit.admit number asked.first asked.last) (length marks.old)) }
+        ensures told { Edits (C.told calendar.now) (ledger_of self.old) (Edit.admit number asked.first asked.last) result marks.old marks.new }
+        ensures ledger { ledger_of self.new ≡ ledger_after (C.told calendar.now) (ledger_of self.old) (Call.edit (Edit.admit number asked.first asked.last) (length marks.old)) }
     {
         about(number, self.check_admit(number, asked, marks.len()))?;
         let mut table = self.table;
@@ -125,8 +125,8 @@ impl State {
         asked: Window,
         marks: &mut [u8],
     ) -> Result<(), BookFault>
-        ensures told { Edits (C.Calendar.told calendar.now) (ledger_of self.old) (Edit.change number asked.first asked.last) result marks.old marks.new }
-        ensures ledger { ledger_of self.new ≡ ledger_after (C.Calendar.told calendar.now) (ledger_of self.old) (Call.edit (Edit.change number asked.first asked.last) (length marks.old)) }
+        ensures told { Edits (C.told calendar.now) (ledger_of self.old) (Edit.change number asked.first asked.last) result marks.old marks.new }
+        ensures ledger { ledger_of self.new ≡ ledger_after (C.told calendar.now) (ledger_of self.old) (Call.edit (Edit.change number asked.first asked.last) (length marks.old)) }
     {
         about(number, self.check_change(number, asked, marks.len()))?;
         let mut table = self.table;
@@ -142,8 +142,8 @@ impl State {
         number: u16,
         marks: &mut [u8],
     ) -> Result<(), BookFault>
-        ensures told { Edits (C.Calendar.told calendar.now) (ledger_of self.old) (Edit.withdraw number) result marks.old marks.new }
-        ensures ledger { ledger_of self.new ≡ ledger_after (C.Calendar.told calendar.now) (ledger_of self.old) (Call.edit (Edit.withdraw number) (length marks.old)) }
+        ensures told { Edits (C.told calendar.now) (ledger_of self.old) (Edit.withdraw number) result marks.old marks.new }
+        ensures ledger { ledger_of self.new ≡ ledger_after (C.told calendar.now) (ledger_of self.old) (Call.edit (Edit.withdraw number) (length marks.old)) }
     {
         about(number, self.check_withdraw(number, marks.len()))?;
         let mut table = self.table;
@@ -159,8 +159,8 @@ impl State {
         day: u16,
         marks: &mut [u8],
     ) -> Result<(), BookFault>
-        ensures told { Edits (C.Calendar.told calendar.now) (ledger_of self.old) (Edit.light day) result marks.old marks.new }
-        ensures ledger { ledger_of self.new ≡ ledger_after (C.Calendar.told calendar.now) (ledger_of self.old) (Call.edit (Edit.light day) (length marks.old)) }
+        ensures told { Edits (C.told calendar.now) (ledger_of self.old) (Edit.light day) result marks.old marks.new }
+        ensures ledger { ledger_of self.new ≡ ledger_after (C.told calendar.now) (ledger_of self.old) (Call.edit (Edit.light day) (length marks.old)) }
     {
         about(day, self.check_light(day, marks.len()))?;
         let next = self.with_light(day, true);
@@ -169,8 +169,8 @@ impl State {
 
     // Makes a day unlit.
     pub fn douse<C: Calendar>(&mut self, calendar: &C, day: u16) -> Result<(), BookFault>
-        ensures told { douse_reply result ≡ reply (C.Calendar.told calendar.now) (ledger_of self.old) (Call.douse day) [] }
-        ensures ledger { ledger_of self.new ≡ ledger_after (C.Calendar.told calendar.now) (ledger_of self.old) (Call.douse day) }
+        ensures told { douse_reply result ≡ reply (C.told calendar.now) (ledger_of self.old) (Call.douse day) [] }
+        ensures ledger { ledger_of self.new ≡ ledger_after (C.told calendar.now) (ledger_of self.old) (Call.douse day) }
     {
         about(day, self.check_douse(day))?;
         let next = self.with_light(day, false);

@@ -32,8 +32,8 @@ impl State {
 
     // Lets out the orders that the first plan puts on today, writes their numbers and tells how many; then it is the next day.
     pub fn turn<C: Calendar>(&mut self, calendar: &C, list: &mut [u16]) -> Result<usize, BookFault>
-        ensures told { Lists (C.Calendar.told calendar.now) (ledger_of self.old) (Call.turn (length list.old)) result (turn_reply result list.new) list.old list.new }
-        ensures ledger { ledger_of self.new ≡ ledger_after (C.Calendar.told calendar.now) (ledger_of self.old) (Call.turn (length list.old)) }
+        ensures told { Lists (C.told calendar.now) (ledger_of self.old) (Call.turn (length list.old)) result (turn_reply result list.new) list.old list.new }
+        ensures ledger { ledger_of self.new ≡ ledger_after (C.told calendar.now) (ledger_of self.old) (Call.turn (length list.old)) }
     {
         about(self.today, self.check_turn(list.len()))?;
         let days = self.planned(calendar, self.today)?;

@@ -17,7 +17,7 @@ impl State {
     // The pair of a day: a lit day has the calendar's, an unlit one fewest 0.
     fn pair_on<C: Calendar>(&self, calendar: &C, at: usize) -> (u16, u16)
         requires { at < 56 }
-        ensures value { result ≡ pair_on (C.Calendar.told calendar.now) (ledger_of self.now) (self.now.today + at) }
+        ensures value { result ≡ pair_on (C.told calendar.now) (ledger_of self.now) (self.now.today + at) }
         ensures sound { Sound result }
     {
         let day = self.today + at as u16;
@@ -31,7 +31,7 @@ impl State {
 
     // The pairs of the horizon.
     pub(crate) fn pairs<C: Calendar>(&self, calendar: &C) -> [(u16, u16); HORIZON]
-        ensures { result ≡ ledger_pairs (C.Calendar.told calendar.now) (ledger_of self.now) }
+        ensures { result ≡ ledger_pairs (C.told calendar.now) (ledger_of self.now) }
     {
         let mut pairs = [(0, 0); HORIZON];
         for at in 0..HORIZON {
@@ -47,10 +47,10 @@ impl State {
         marks: &mut [u8],
     ) -> Result<(), NarrowingFault>
         requires { 56 ≤ length marks.old }
-        ensures answer { result ≡ told (weigh_ledger (C.Calendar.told calendar.now) (ledger_of self.old) (horizon_marks marks.new)) }
-        ensures marks { Marked self.old.today (ledger_pairs (C.Calendar.told calendar.now) (ledger_of self.old)) (windows (ledger_of self.old)) marks.old marks.new (weigh_ledger (C.Calendar.told calendar.now) (ledger_of self.old) (horizon_marks marks.new)) }
+        ensures answer { result ≡ told (weigh_ledger (C.told calendar.now) (ledger_of self.old) (horizon_marks marks.new)) }
+        ensures marks { Marked self.old.today (ledger_pairs (C.told calendar.now) (ledger_of self.old)) (windows (ledger_of self.old)) marks.old marks.new (weigh_ledger (C.told calendar.now) (ledger_of self.old) (horizon_marks marks.new)) }
         ensures ledger { ledger_of self.new ≡ ledger_of self.old }
-        ensures told { result ≡ Ok tt → told_in self.new.table ≡ narrowed self.old.today (ledger_pairs (C.Calendar.told calendar.now) (ledger_of self.old)) (windows (ledger_of self.old)) }
+        ensures told { result ≡ Ok tt → told_in self.new.table ≡ narrowed self.old.today (ledger_pairs (C.told calendar.now) (ledger_of self.old)) (windows (ledger_of self.old)) }
     {
         let pairs = self.pairs(calendar);
         self.table.narrow(self.today, &pairs, marks)
