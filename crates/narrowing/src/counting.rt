@@ -34,7 +34,7 @@ fn tally<R: Record>(day: u16, records: &[R], table: &mut [u16])
 // Sums a row from its end, and adds to it what the rows before came to.
 fn add_row(row: &mut [u16], sums: &mut [u16])
     requires row_len { length row.old ≡ length sums.old }
-    requires by_index { (p : ℕ) → p < length row.old → slice_index sums.old p + sum (drop p row.old) < 65536 }
+    requires fits { (p : ℕ) → p < length row.old → slice_index sums.old p + sum (drop p row.old) < 65536 }
     ensures row { (p : ℕ) → p < length row.old → slice_index row.new p ≡ slice_index sums.old p + sum (drop p row.old) }
     ensures sums { (p : ℕ) → p < length row.old → slice_index sums.new p ≡ slice_index sums.old p + sum (drop p row.old) }
 {

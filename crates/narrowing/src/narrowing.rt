@@ -48,7 +48,7 @@ fn narrow_counted<R: Record>(
     requires pairs_len_bound { (length pairs.now ≤ 128) × (length records.old ≤ 512) }
     requires table_len { (length table.now ≡ 16384) × (length before.now ≡ 129) × (length left.now ≡ 129) }
     requires proper { Proper first pairs.now (map R.span records.old) }
-    requires by_index { (ts : List ℕ) × Plan first pairs.now (map R.span records.old) ts }
+    requires planned { (ts : List ℕ) × Plan first pairs.now (map R.span records.old) ts }
     requires counted { Counted first (length pairs.now) (map R.span records.old) table.now }
     requires summed { Summed pairs.now before.now }
     requires need_left { NeedLeft first (length pairs.now) (fewest pairs.now) (map R.span records.old) (tabled left.now) }
@@ -79,7 +79,7 @@ fn narrow_counted<R: Record>(
 fn narrow_ready<R: Record>(first: u16, pairs: &[(u16, u16)], records: &mut [R])
     requires pairs_len_bound { (length pairs.now ≤ 128) × (length records.old ≤ 512) }
     requires proper { Proper first pairs.now (map R.span records.old) }
-    requires by_index { (ts : List ℕ) × Plan first pairs.now (map R.span records.old) ts }
+    requires planned { (ts : List ℕ) × Plan first pairs.now (map R.span records.old) ts }
     ensures { records.new ≡ placed R.put (narrowed first pairs.now (map R.span records.old)) records.old }
 {
     let mut table = [0u16; CELLS];

@@ -7,7 +7,7 @@ use crate::counting::row;
 // The largest of the start and of each need with its cell.
 fn reach(row: &[u16], needs: &[u32], start: u32) -> u32
     requires row_len { length row.now ≡ length needs.now }
-    requires by_index { (p : ℕ) → p < length row.now → slice_index needs.now p < 2147483648 }
+    requires small { (p : ℕ) → p < length row.now → slice_index needs.now p < 2147483648 }
     ensures { Reach row.now needs.now start (length row.now) result }
 {
     let mut largest = start;

@@ -20,7 +20,7 @@ pub(crate) fn sum_mosts(pairs: &[(u16, u16)], before: &mut [u32])
 // The largest first day whose cell is above what is left of the mosts, `top` in all.
 fn last_over(row: &[u16], before: &[u32], top: u32) -> Option<usize>
     requires row_len { length row.now ≡ length before.now }
-    requires by_index { (p : ℕ) → p < length row.now → slice_index before.now p ≤ top }
+    requires before_bound { (p : ℕ) → p < length row.now → slice_index before.now p ≤ top }
     ensures { MatchOption result (Fits row.now before.now top 0) (λ p. (p < length row.now) × (top - slice_index before.now p < slice_index row.now p) × Fits row.now before.now top (suc p)) }
 {
     for p in (0..row.len()).rev() {

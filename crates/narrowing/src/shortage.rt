@@ -13,7 +13,7 @@ use records::limits::EDGES;
 fn find_run(row: &[u16], left: &[u32], goal: u32) -> usize
     requires row_len { length row.now ≡ length left.now }
     requires row_nonzero { 0 < length row.now }
-    requires by_index { (p : ℕ) → p < length row.now → slice_index left.now p < 2147483648 }
+    requires left_bound { (p : ℕ) → p < length row.now → slice_index left.now p < 2147483648 }
     ensures within { result < length row.now }
     ensures found { (p : ℕ) → p < length row.now → goal ≡ slice_index left.now p + slice_index row.now p → goal ≡ slice_index left.now result + slice_index row.now result }
 {
@@ -31,7 +31,7 @@ pub(crate) fn mark_shortage(pairs: &[(u16, u16)], table: &[u16], left: &[u32], m
     requires table_len { (length table.now ≡ 16384) × (length left.now ≡ 129) }
     requires marks_len { length marks.old ≡ length pairs.now }
     requires needs_of { NeedsOf pairs.now table.now left.now }
-    requires by_index { (v : ℕ) → v ≤ length pairs.now → slice_index left.now v ≤ v * 65535 }
+    requires left_bound { (v : ℕ) → v ≤ length pairs.now → slice_index left.now v ≤ v * 65535 }
     ensures marks { Marks (length pairs.now) marks.new }
     ensures shown { Shown pairs.now table.now left.now marks.new }
 {

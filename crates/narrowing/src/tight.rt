@@ -41,10 +41,10 @@ fn mark_tight(
     latest: &mut [u16],
 ) -> bool
     requires row_len { (length row.now ≡ length before.now) × (length row.now ≡ length left.now) × (length row.now ≡ length latest.old) }
-    requires by_index { (p : ℕ) → p < length row.now → slice_index before.now p ≤ top }
-    requires by_index_2 { (p : ℕ) → p < length row.now → slice_index left.now p < 2147483648 }
+    requires before_bound { (p : ℕ) → p < length row.now → slice_index before.now p ≤ top }
+    requires left_bound { (p : ℕ) → p < length row.now → slice_index left.now p < 2147483648 }
     requires end_nonzero { 0 < end }
-    requires by_index_3 { (p : ℕ) → p < length row.now → slice_index latest.old p ≤ end }
+    requires latest_bound { (p : ℕ) → p < length row.now → slice_index latest.old p ≤ end }
     ensures none { result ≡ false → (p : ℕ) → p < length row.now → tight? row.now before.now left.now top rest p ≡ false }
     ensures marks { (p : ℕ) → p < length row.now → slice_index latest.new p ≡ (if tight? row.now before.now left.now top rest p then end else slice_index latest.old p) }
 {
@@ -61,8 +61,8 @@ fn mark_tight(
 // The first of a row's runs that is tight, by its first day, or the end of the runs where none is.
 fn first_tight(row: &[u16], before: &[u32], left: &[u32], top: u32, rest: u32, end: u16) -> u16
     requires row_len { (length row.now ≡ length before.now) × (length row.now ≡ length left.now) × (length row.now ≡ end) }
-    requires by_index { (p : ℕ) → p < length row.now → slice_index before.now p ≤ top }
-    requires by_index_2 { (p : ℕ) → p < length row.now → slice_index left.now p < 2147483648 }
+    requires before_bound { (p : ℕ) → p < length row.now → slice_index before.now p ≤ top }
+    requires left_bound { (p : ℕ) → p < length row.now → slice_index left.now p < 2147483648 }
     ensures none { (p : ℕ) → p < result → p < length row.now → tight? row.now before.now left.now top rest p ≡ false }
     ensures one { result < end → tight? row.now before.now left.now top rest result ≡ true }
     ensures within { result ≤ end }
@@ -87,10 +87,10 @@ fn tight_row(
     latest: &mut [u16],
 ) -> u16
     requires row_len { (length row.now ≡ length before.now) × (length row.now ≡ length left.now) × (length row.now ≡ length latest.old) × (length row.now ≡ end) }
-    requires by_index { (p : ℕ) → p < length row.now → slice_index before.now p ≤ top }
-    requires by_index_2 { (p : ℕ) → p < length row.now → slice_index left.now p < 2147483648 }
+    requires before_bound { (p : ℕ) → p < length row.now → slice_index before.now p ≤ top }
+    requires left_bound { (p : ℕ) → p < length row.now → slice_index left.now p < 2147483648 }
     requires end_nonzero { 0 < end }
-    requires by_index_3 { (p : ℕ) → p < length row.now → slice_index latest.old p ≤ end }
+    requires latest_bound { (p : ℕ) → p < length row.now → slice_index latest.old p ≤ end }
     ensures none { (p : ℕ) → p < result → p < length row.now → tight? row.now before.now left.now top rest p ≡ false }
     ensures one { result < end → tight? row.now before.now left.now top rest result ≡ true }
     ensures within { result ≤ end }

@@ -15,7 +15,7 @@ use records::limits::{MOST_DAYS, MOST_RECORDS};
 // Closes a place to its first day and narrows again, unless it has one day only.
 fn close(first: u16, pairs: &[(u16, u16)], windows: &mut [Window], place: usize)
     requires place_in_bounds { place < length windows.old }
-    requires closed_2 { Closed first pairs.now place (map span_of windows.old) }
+    requires closed_before { Closed first pairs.now place (map span_of windows.old) }
     ensures closed { Closed first pairs.now (suc place) (map span_of windows.new) }
     ensures plan { first_plan first pairs.now (map span_of windows.new) ≡ first_plan first pairs.now (map span_of windows.old) }
 {

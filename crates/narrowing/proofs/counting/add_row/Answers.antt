@@ -12,17 +12,17 @@ loop-p-init c = (
   (λ j h l. absurd (omega arith)),
 )
 
-pub overflow-add-run : goal.overflow-add-run
-overflow-add-run c =
+pub overflow_add-run : goal.overflow_add-run
+overflow_add-run c =
     let i : ℕ = c.loop-p.p - 1 in
     let xs = c.args.row.now in
-    omega (arith, c.loop-p.invariant.0, c.loop-p.invariant.1 i (omega arith), sum_drop xs c.loop-p.p i (omega arith) (omega arith), c.requires.1 i (omega arith))
+    omega (arith, c.loop-p.invariant.0, c.loop-p.invariant.1 i (omega arith), sum_drop xs c.loop-p.p i (omega arith) (omega arith), c.requires.fits i (omega arith))
 
-pub overflow-add-all : goal.overflow-add-all
-overflow-add-all c =
+pub overflow_add-all : goal.overflow_add-all
+overflow_add-all c =
     let i : ℕ = c.loop-p.p - 1 in
     let xs = c.args.row.now in
-    omega (arith, c.loop-p.invariant.0, c.loop-p.invariant.1 i (omega arith), c.loop-p.invariant.2 i (omega arith), sum_drop xs c.loop-p.p i (omega arith) (omega arith), c.requires.1 i (omega arith))
+    omega (arith, c.loop-p.invariant.0, c.loop-p.invariant.1 i (omega arith), c.loop-p.invariant.2 i (omega arith), sum_drop xs c.loop-p.p i (omega arith) (omega arith), c.requires.fits i (omega arith))
 
 pub loop-p-preserved : goal.loop-p-preserved
 loop-p-preserved c =

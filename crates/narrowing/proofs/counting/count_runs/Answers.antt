@@ -27,7 +27,12 @@ grown k d ws b xs ss W len lt row low high p h =
 
 pub tally-requires : goal.tally-requires
 tally-requires g c =
-    (c.requires.0, within_more c.args.day c.args.days 128 (map g.R.Record.span c.args.records.now) c.requires.1 c.requires.2, c.requires.3, c.requires.4)
+    record {
+  records_len_bound = c.requires.records_len_bound;
+  within = within_more c.args.day c.args.days 128 (map g.R.Record.span c.args.records.now) c.requires.days_bound c.requires.within;
+  table_len = c.requires.table_len;
+  blank = c.requires.blank;
+}
 
 pub loop-last-init : goal.loop-last-init
 loop-last-init g c = (
@@ -38,21 +43,21 @@ loop-last-init g c = (
   (λ p h. zeros 128 p),
 )
 
-pub add-row-requires : goal.add-row-requires
-add-row-requires g c =
+pub add_row-requires : goal.add_row-requires
+add_row-requires g c =
     let b : ℕ = c.loop-last.last in
     let xs = c.loop-last.table in
     let ss = c.loop-last.sums in
     let ws = map g.R.Record.span c.args.records.now in
-    let len : length xs ≡ 16384 = c.loop-last.auto.table ∙ c.tally.auto.table ∙ c.requires.3 in
+    let len : length xs ≡ 16384 = c.loop-last.auto.table ∙ c.tally.auto.table ∙ c.requires.table_len in
     let n = part_length xs b len (omega arith) in
-    let m = front_length ss b 128 c.loop-last.invariant.0 (omega arith) in (
-      n ∙ sym m,
-      λ p h.
+    let m = front_length ss b 128 c.loop-last.invariant.0 (omega arith) in record {
+  row_len = n ∙ sym m;
+  fits = λ p h.
           let le : p ≤ b = omega arith in
-          let all = grown c.args.day c.args.days ws b xs ss c.requires.2 len (omega arith) (λ a i. c.loop-last.invariant.2 b (omega arith) (omega arith) a i) c.loop-last.invariant.3 c.loop-last.invariant.4 p le in
-          omega (arith, all, forced_le c.args.day ws p (suc b), length-map c.args.records.now g.R.Record.span, c.requires.0),
-    )
+          let all = grown c.args.day c.args.days ws b xs ss c.requires.within len (omega arith) (λ a i. c.loop-last.invariant.2 b (omega arith) (omega arith) a i) c.loop-last.invariant.3 c.loop-last.invariant.4 p le in
+          omega (arith, all, forced_le c.args.day ws p (suc b), length-map c.args.records.now g.R.Record.span, c.requires.records_len_bound);
+}
 
 pub loop-last-preserved : goal.loop-last-preserved
 loop-last-preserved g c =
@@ -61,31 +66,31 @@ loop-last-preserved g c =
     let xs = c.loop-last.table in
     let ss = c.loop-last.sums in
     let ws = map g.R.Record.span c.args.records.now in
-    let row : List ℕ = c.add-row.new.row in
-    let sums : List ℕ = c.add-row.new.sums in
+    let row : List ℕ = c.add_row.new.row in
+    let sums : List ℕ = c.add_row.new.sums in
     let lt : b < 128 = omega arith in
-    let len : length xs ≡ 16384 = c.loop-last.auto.table ∙ c.tally.auto.table ∙ c.requires.3 in
+    let len : length xs ≡ 16384 = c.loop-last.auto.table ∙ c.tally.auto.table ∙ c.requires.table_len in
     let n = part_length xs b len lt in
     let m = front_length ss b 128 c.loop-last.invariant.0 lt in
-    let rl : length row ≡ b + 1 = c.add-row.auto.row ∙ n in
-    let sl : length sums ≡ b + 1 = c.add-row.auto.sums ∙ m in
+    let rl : length row ≡ b + 1 = c.add_row.auto.row ∙ n in
+    let sl : length sums ≡ b + 1 = c.add_row.auto.sums ∙ m in
     let all : (p : ℕ) → p ≤ b → get_or (take (b + 1) ss) p 0 + sum (drop p (part xs b)) ≡ forced k ws p (suc b) =
-    grown k c.args.days ws b xs ss c.requires.2 len lt (λ a i. c.loop-last.invariant.2 b (omega arith) lt a i) c.loop-last.invariant.3 c.loop-last.invariant.4 in (
+    grown k c.args.days ws b xs ss c.requires.within len lt (λ a i. c.loop-last.invariant.2 b (omega arith) lt a i) c.loop-last.invariant.3 c.loop-last.invariant.4 in (
       over_length ss sums b 128 c.loop-last.invariant.0 lt sl,
       (λ j h p l. elim (cases_lt j b) [
         | inl i ↦ put_low xs row b j p len lt rl i (omega arith) ∙ c.loop-last.invariant.1 j i p l
         | inr i ↦
             let e : j ≡ b = omega arith in
             let q : p ≤ b = omega arith in
-            ap (λ x. get_or (put xs b row) (x * 128 + p) 0) e ∙ put_same xs row b p len lt rl q ∙ c.add-row.ensures.row p (omega arith) ∙ all p q
+            ap (λ x. get_or (put xs b row) (x * 128 + p) 0) e ∙ put_same xs row b p len lt rl q ∙ c.add_row.ensures.row p (omega arith) ∙ all p q
             ∙ ap (λ x. forced k ws p (suc x)) (sym e)
       ]),
       (λ j h l a ha. put_high xs row b j a len lt rl (omega arith) ha ∙ c.loop-last.invariant.2 j (omega arith) l a ha),
       (λ p h.
           let q : p ≤ b = omega arith in
-          over_low ss sums b p sl q ∙ c.add-row.ensures.sums p (omega arith) ∙ all p q ∙ ap (forced k ws p) (sym (add-one b))),
+          over_low ss sums b p sl q ∙ c.add_row.ensures.sums p (omega arith) ∙ all p q ∙ ap (forced k ws p) (sym (add-one b))),
       (λ p h. over_high ss sums b p sl (omega arith) ∙ c.loop-last.invariant.4 p (omega arith)),
     )
 
 pub returns : goal.returns
-returns g c = record { within = c.requires.2; cells = λ b h p l. c.loop-last.invariant.1 b (omega arith) p l }
+returns g c = record { within = c.requires.within; cells = λ b h p l. c.loop-last.invariant.1 b (omega arith) p l }

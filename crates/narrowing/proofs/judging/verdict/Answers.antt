@@ -11,9 +11,14 @@ pub judge-requires : goal.judge-requires
 judge-requires g c =
     let records = c.args.records.now in
     let ws = map g.R.Record.span records in
-    let P = passed c.args.first c.args.pairs.now ws (length c.args.marks.now) (sym c.in-ok-check.ensures) in
+    let P = passed c.args.first c.args.pairs.now ws (length c.args.marks.now) (sym c.in_ok-check.ensures) in
     let few : length records ≤ 512 = omega (arith, P.few_records, length-map records g.R.Record.span) in
-    (P.range.few_days, P.range.enough_marks, few, P.proper)
+    record {
+  pairs_len_bound = P.range.few_days;
+  pairs_in_bounds = P.range.enough_marks;
+  records_len_bound = few;
+  proper = P.proper;
+}
 
 pub returns : goal.returns
 returns g c =
@@ -22,7 +27,7 @@ returns g c =
     let ws = map g.R.Record.span c.args.records.now in
     let marks = c.args.marks.now in
     let after = c.judge.new.marks in
-    let ok : checked k pairs ws (length marks) ≡ Ok tt = sym c.in-ok-check.ensures in
+    let ok : checked k pairs ws (length marks) ≡ Ok tt = sym c.in_ok-check.ensures in
     let P = passed k pairs ws (length marks) ok in
     record {
       answer = c.judge.ensures.answer ∙ answer_past k pairs ws (length marks) (take (length pairs) after) ok;

@@ -5,20 +5,20 @@ use Rattle.narrowing.specs.Scanning.{found}
 use Rattle.narrowing.proofs.Placing.{moved, taken, at_hand, moved_all}
 use Rattle.narrowing.proofs.narrowing.put_windows.Goals as goal
 
-pub overflow-sub-a : goal.overflow-sub-a
-overflow-sub-a g c =
+pub overflow_sub-a : goal.overflow_sub-a
+overflow_sub-a g c =
     let m = g.R.Record in
     let k : ℕ = c.args.day in
     let table : List ℕ = c.args.table.now in
-    let h = at_hand m.span (moved m.put m.span k table) k table c.args.records.now c.loop-each.records c.loop-each.Each-index _ _ c.requires.1 c.requires.2 c.loop-each-test.true c.loop-each.invariant c.each-item.is c.window-first.ensures in
+    let h = at_hand m.span (moved m.put m.span k table) k table c.args.records.now c.loop-each.records c.loop-each.each-index _ _ c.requires.within c.requires.shorter c.loop-each-test.true c.loop-each.invariant c.each-item.is c.window-first.ensures in
     omega (arith, h.begins)
 
-pub overflow-sub-b : goal.overflow-sub-b
-overflow-sub-b g c =
+pub overflow_sub-b : goal.overflow_sub-b
+overflow_sub-b g c =
     let m = g.R.Record in
     let k : ℕ = c.args.day in
     let table : List ℕ = c.args.table.now in
-    let h = at_hand m.span (moved m.put m.span k table) k table c.args.records.now c.loop-each.records c.loop-each.Each-index _ _ c.requires.1 c.requires.2 c.loop-each-test.true c.loop-each.invariant c.each-item.is c.window-first.ensures in
+    let h = at_hand m.span (moved m.put m.span k table) k table c.args.records.now c.loop-each.records c.loop-each.each-index _ _ c.requires.within c.requires.shorter c.loop-each-test.true c.loop-each.invariant c.each-item.is c.window-first.ensures in
     omega (arith, h.begins, h.ordered)
 
 pub bounds-table-b : goal.bounds-table-b
@@ -26,15 +26,15 @@ bounds-table-b g c =
     let m = g.R.Record in
     let k : ℕ = c.args.day in
     let table : List ℕ = c.args.table.now in
-    let h = at_hand m.span (moved m.put m.span k table) k table c.args.records.now c.loop-each.records c.loop-each.Each-index _ _ c.requires.1 c.requires.2 c.loop-each-test.true c.loop-each.invariant c.each-item.is c.window-first.ensures in
-    omega (arith, h.begins, h.ordered, h.ends, c.requires.0)
+    let h = at_hand m.span (moved m.put m.span k table) k table c.args.records.now c.loop-each.records c.loop-each.each-index _ _ c.requires.within c.requires.shorter c.loop-each-test.true c.loop-each.invariant c.each-item.is c.window-first.ensures in
+    omega (arith, h.begins, h.ordered, h.ends, c.requires.table_len)
 
-pub overflow-add-day : goal.overflow-add-day
-overflow-add-day g c =
+pub overflow_add-day : goal.overflow_add-day
+overflow_add-day g c =
     let m = g.R.Record in
     let k : ℕ = c.args.day in
     let table : List ℕ = c.args.table.now in
-    let h = at_hand m.span (moved m.put m.span k table) k table c.args.records.now c.loop-each.records c.loop-each.Each-index _ _ c.requires.1 c.requires.2 c.loop-each-test.true c.loop-each.invariant c.each-item.is c.window-first.ensures in
+    let h = at_hand m.span (moved m.put m.span k table) k table c.args.records.now c.loop-each.records c.loop-each.each-index _ _ c.requires.within c.requires.shorter c.loop-each-test.true c.loop-each.invariant c.each-item.is c.window-first.ensures in
     omega (arith, h.has_day, h.no_later)
 
 pub bounds-table-a : goal.bounds-table-a
@@ -42,15 +42,15 @@ bounds-table-a g c =
     let m = g.R.Record in
     let k : ℕ = c.args.day in
     let table : List ℕ = c.args.table.now in
-    let h = at_hand m.span (moved m.put m.span k table) k table c.args.records.now c.loop-each.records c.loop-each.Each-index _ _ c.requires.1 c.requires.2 c.loop-each-test.true c.loop-each.invariant c.each-item.is c.window-first.ensures in
-    omega (arith, h.begins, h.ordered, h.ends, c.requires.0)
+    let h = at_hand m.span (moved m.put m.span k table) k table c.args.records.now c.loop-each.records c.loop-each.each-index _ _ c.requires.within c.requires.shorter c.loop-each-test.true c.loop-each.invariant c.each-item.is c.window-first.ensures in
+    omega (arith, h.begins, h.ordered, h.ends, c.requires.table_len)
 
-pub overflow-add-day-in-loop-each : goal.overflow-add-day-in-loop-each
-overflow-add-day-in-loop-each g c =
+pub overflow_add-day-in-loop-each : goal.overflow_add-day-in-loop-each
+overflow_add-day-in-loop-each g c =
     let m = g.R.Record in
     let k : ℕ = c.args.day in
     let table : List ℕ = c.args.table.now in
-    let h = at_hand m.span (moved m.put m.span k table) k table c.args.records.now c.loop-each.records c.loop-each.Each-index _ _ c.requires.1 c.requires.2 c.loop-each-test.true c.loop-each.invariant c.each-item.is c.window-first.ensures in
+    let h = at_hand m.span (moved m.put m.span k table) k table c.args.records.now c.loop-each.records c.loop-each.each-index _ _ c.requires.within c.requires.shorter c.loop-each-test.true c.loop-each.invariant c.each-item.is c.window-first.ensures in
     omega (arith, h.no_later)
 
 pub loop-each-preserved : goal.loop-each-preserved
@@ -58,12 +58,12 @@ loop-each-preserved g c =
     let m = g.R.Record in
     let k : ℕ = c.args.day in
     let table : List ℕ = c.args.table.now in
-    let h = at_hand m.span (moved m.put m.span k table) k table c.args.records.now c.loop-each.records c.loop-each.Each-index _ _ c.requires.1 c.requires.2 c.loop-each-test.true c.loop-each.invariant c.each-item.is c.window-first.ensures in
+    let h = at_hand m.span (moved m.put m.span k table) k table c.args.records.now c.loop-each.records c.loop-each.each-index _ _ c.requires.within c.requires.shorter c.loop-each-test.true c.loop-each.invariant c.each-item.is c.window-first.ensures in
     let x = c.each-item.result in
     let w : Window = c.window-first.result in
-    let lt : c.loop-each.Each-index < length c.args.records.now = omega arith in
-    let step = map_over_more (moved m.put m.span k table) c.args.records.now c.loop-each.records c.loop-each.Each-index x lt c.loop-each.invariant c.each-item.is in
-    let e1 = c.set-window.ensures in
+    let lt : c.loop-each.each-index < length c.args.records.now = omega arith in
+    let step = map_over_more (moved m.put m.span k table) c.args.records.now c.loop-each.records c.loop-each.each-index x lt c.loop-each.invariant c.each-item.is in
+    let e1 = c.set_window.ensures in
     let e2 = c.window-first.ensures in
     let e3 = taken m.put x (found k table w) h.has_day in
     cc
@@ -71,4 +71,4 @@ loop-each-preserved g c =
 pub returns : goal.returns
 returns g c =
     let m = g.R.Record in
-    moved_all m.put m.span c.args.day c.args.table.now c.args.records.now c.loop-each.records c.loop-each.Each-index c.loop-each-test.false c.loop-each.invariant
+    moved_all m.put m.span c.args.day c.args.table.now c.args.records.now c.loop-each.records c.loop-each.each-index c.loop-each-test.false c.loop-each.invariant

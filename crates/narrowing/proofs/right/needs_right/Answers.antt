@@ -11,8 +11,8 @@ use Rattle.narrowing.proofs.right.needs_right.Goals as goal
 
 pub loop-v-init : goal.loop-v-init
 loop-v-init c = (
-  (λ k ws C. right_none k (length c.args.pairs.now) (fewest c.args.pairs.now) ws (tabled c.args.right.now) c.requires.3),
-  λ j h. omega (arith, c.requires.3 j),
+  (λ k ws C. right_none k (length c.args.pairs.now) (fewest c.args.pairs.now) ws (tabled c.args.right.now) c.requires.blank),
+  λ j h. omega (arith, c.requires.blank j),
 )
 
 pub lift-requires : goal.lift-requires
@@ -20,8 +20,11 @@ lift-requires c =
     let v : ℕ = c.loop-v.v - 1 in
     let ys = c.loop-v.right in
     let n = c.row.ensures.long in
-    let m = front_length ys v 129 (c.loop-v.auto.right ∙ c.requires.2) (omega arith) in
-    (n ∙ sym m, omega (arith, c.loop-v.invariant.1 (v + 1) (omega arith)))
+    let m = front_length ys v 129 (c.loop-v.auto.right ∙ c.requires.right_len) (omega arith) in
+    record {
+  row_len = n ∙ sym m;
+  after_bound = omega (arith, c.loop-v.invariant.1 (v + 1) (omega arith));
+}
 
 pub loop-v-preserved : goal.loop-v-preserved
 loop-v-preserved c =
@@ -36,7 +39,7 @@ loop-v-preserved c =
     let N : ℕ → ℕ = tabled ys in
     let N' : ℕ → ℕ = tabled (set os b x) in
     let n = c.row.ensures.long in
-    let yl : length ys ≡ 129 = c.loop-v.auto.right ∙ c.requires.2 in
+    let yl : length ys ≡ 129 = c.loop-v.auto.right ∙ c.requires.right_len in
     let m = front_length ys b 129 yl (omega arith) in
     let zl : length zs ≡ b + 1 = c.lift.auto.needs ∙ m in
     let ol : length os ≡ 129 = over_length ys zs b 129 yl (omega arith) zl in
@@ -57,8 +60,8 @@ loop-v-preserved c =
       λ j h. elim (cases_lt b j) [
         | inl l ↦ omega (arith, high j l h, c.loop-v.invariant.1 j h)
         | inr g ↦ elim (cases_eq j b) [
-          | inl e ↦ rw e (omega (arith, here, c.type-inv.table (b * 128 + b), c.loop-v.invariant.1 b (omega arith), c.loop-v.invariant.1 (b + 1) (omega arith)))
-          | inr ne ↦ omega (arith, low j (omega arith), c.type-inv.table (b * 128 + j), c.loop-v.invariant.1 j h, c.loop-v.invariant.1 (b + 1) (omega arith))
+          | inl e ↦ rw e (omega (arith, here, c.type_inv.table (b * 128 + b), c.loop-v.invariant.1 b (omega arith), c.loop-v.invariant.1 (b + 1) (omega arith)))
+          | inr ne ↦ omega (arith, low j (omega arith), c.type_inv.table (b * 128 + j), c.loop-v.invariant.1 j h, c.loop-v.invariant.1 (b + 1) (omega arith))
         ]
       ],
     )

@@ -12,5 +12,5 @@ returns c =
     let one = c.fill-2.ensures.after (λ y e. e) in
     let l = c.fill.ensures.len in
     let e = length-drop p xs in
-    let n = length-take-le (b + 1 - p) (drop p xs) (omega (arith, c.requires.1)) in
-    run_written xs c.fill-2.new.self (length c.args.marks.now) p b c.requires.0 c.requires.1 zero (one ∙ ap (λ n. replicate n 1) n)
+    let n = length-take-le (b + 1 - p) (drop p xs) (omega (arith, c.requires.last_in_bounds)) in
+    run_written xs c.fill-2.new.self (length c.args.marks.now) p b c.requires.first_le_last c.requires.last_in_bounds zero (one ∙ ap (λ n. replicate n 1) n)

@@ -5,7 +5,7 @@ use Rattle.narrowing.proofs.Writes.{sums_none, sums_more}
 use Rattle.narrowing.proofs.runs.sum_mosts.Goals as goal
 
 pub loop-v-init : goal.loop-v-init
-loop-v-init c = sums_none (most c.args.pairs.now) 65535 c.args.before.now (omega (arith, c.requires.1))
+loop-v-init c = sums_none (most c.args.pairs.now) 65535 c.args.before.now (omega (arith, c.requires.before_len))
 
 pub loop-v-preserved : goal.loop-v-preserved
 loop-v-preserved c =

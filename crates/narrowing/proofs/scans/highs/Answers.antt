@@ -7,13 +7,13 @@ use Rattle.narrowing.specs.Scanning.{high_day}
 use Rattle.narrowing.proofs.ScanSteps.{high_one, high_more, either_way, part_long, part_cell, mid_long, mid_new, mid_before, mid_after}
 use Rattle.narrowing.proofs.scans.highs.Goals as goal
 
-pub high-step-requires : goal.high-step-requires
-high-step-requires c =
+pub high_step-requires : goal.high_step-requires
+high_step-requires c =
     let a : ℕ = c.loop-a.a - 1 in
     let d : ℕ = c.args.days in
     let hs = c.loop-a.high in
-    let n = part_long c.loop-a.table (a * 128 + a) (a * 128 + d) (omega arith) (omega (arith, c.loop-a.auto.table, c.requires.2, c.requires.0)) in
-    let m = part_long (set hs a a) a d (omega arith) (omega (arith, length-set hs a a, c.loop-a.invariant.0, c.requires.0)) in
+    let n = part_long c.loop-a.table (a * 128 + a) (a * 128 + d) (omega arith) (omega (arith, c.loop-a.auto.table, c.requires.table_len, c.requires.days_bound)) in
+    let m = part_long (set hs a a) a d (omega arith) (omega (arith, length-set hs a a, c.loop-a.invariant.0, c.requires.days_bound)) in
     omega arith
 
 pub loop-a-preserved : goal.loop-a-preserved
@@ -28,16 +28,16 @@ loop-a-preserved c =
     let os : List ℕ = c.loop-a.high in
     let hs : List ℕ = set os a a in
     let old : List ℕ = take (d - a) (drop a hs) in
-    let new : List ℕ = c.high-step.new.high in
-    let row : List ℕ = c.high-step.new.row in
-    let len : length xs ≡ 16384 = c.loop-a.auto.table ∙ c.requires.2 in
-    let few : d ≤ 128 = c.requires.0 in
+    let new : List ℕ = c.high_step.new.high in
+    let row : List ℕ = c.high_step.new.row in
+    let len : length xs ≡ 16384 = c.loop-a.auto.table ∙ c.requires.table_len in
+    let few : d ≤ 128 = c.requires.days_bound in
     let lt : a < d = omega arith in
     let ol : length hs ≡ 128 = length-set os a a ∙ c.loop-a.invariant.0 in
     let n = part_long xs r s (omega arith) (omega arith) in
     let m : length old ≡ d - a = part_long hs a d (omega arith) (omega arith) in
-    let rl : length row ≡ s - r = c.high-step.auto.row ∙ n in
-    let nl : length new ≡ d - a = c.high-step.auto.high ∙ m in
+    let rl : length row ≡ s - r = c.high_step.auto.row ∙ n in
+    let nl : length new ≡ d - a = c.high_step.auto.high ∙ m in
     let late : f (a + 1) ≡ f p = ap f (omega arith) in
     let was : (b : ℕ) → a ≤ b → b < d → get_or old (b - a) 0 ≡ get_or hs b 0 = λ b h l.
     let e : a + (b - a) ≡ b = omega arith in
@@ -55,7 +55,7 @@ loop-a-preserved c =
     let cell : (b : ℕ) → a ≤ b → b < d → get_or (put_mid r (s - r) xs row) (a * 128 + b) 0 ≡ high_day f a b = λ b h l.
     let e : a * 128 + b ≡ r + (b - a) = omega arith in
     ap (λ j. get_or (put_mid r (s - r) xs row) j 0) e ∙ mid_new xs row r s (b - a) (omega arith) (omega arith) rl (omega arith)
-    ∙ c.high-step.ensures.row (b - a) (omega arith) ∙ is b h l in (
+    ∙ c.high_step.ensures.row (b - a) (omega arith) ∙ is b h l in (
       mid_long hs new a d (omega arith) (omega arith) nl ∙ ol,
       (λ j b h l q. elim (cases_eq j a) [
         | inl e ↦ ap (λ j. get_or (put_mid r (s - r) xs row) (j * 128 + b) 0) e ∙ cell b (omega arith) q ∙ ap (λ j. high_day f j b) (sym e)
@@ -64,7 +64,7 @@ loop-a-preserved c =
       (λ b h l.
           let e : b ≡ a + (b - a) = omega arith in
           ap (λ j. get_or (put_mid a (d - a) hs new) j 0) e ∙ mid_new hs new a d (b - a) (omega arith) (omega arith) nl (omega arith)
-          ∙ c.high-step.ensures.high (b - a) (omega arith) ∙ is b h l),
+          ∙ c.high_step.ensures.high (b - a) (omega arith) ∙ is b h l),
       (λ i b h l. elim (cases_lt (b * 128 + i) r) [
         | inl e ↦ mid_before xs row r s (b * 128 + i) (omega arith) (omega arith) rl e ∙ c.loop-a.invariant.3 i b h l
         | inr e ↦ mid_after xs row r s (b * 128 + i) (omega arith) (omega arith) rl (omega arith) ∙ c.loop-a.invariant.3 i b h l

@@ -7,11 +7,11 @@ use Rattle.narrowing.proofs.ScanSteps.{low_one, low_more, either_way}
 use Rattle.narrowing.proofs.Parts.{part_length, put, put_same, put_low, front_length, front_at, over_length, over_low}
 use Rattle.narrowing.proofs.scans.lows.Goals as goal
 
-pub low-step-requires : goal.low-step-requires
-low-step-requires c =
+pub low_step-requires : goal.low_step-requires
+low_step-requires c =
     let b : ℕ = c.loop-b.b in
     let ls = c.loop-b.low in
-    let n = part_length c.loop-b.table b (c.loop-b.auto.table ∙ c.requires.2) (omega arith) in
+    let n = part_length c.loop-b.table b (c.loop-b.auto.table ∙ c.requires.table_len) (omega arith) in
     let m = front_length (set ls b b) b 128 (length-set ls b b ∙ c.loop-b.invariant.0) (omega arith) in
     m ∙ sym n
 
@@ -22,15 +22,15 @@ loop-b-preserved c =
     let xs = c.loop-b.table in
     let os : List ℕ = c.loop-b.low in
     let ls : List ℕ = set os b b in
-    let new : List ℕ = c.low-step.new.low in
-    let row : List ℕ = c.low-step.new.row in
+    let new : List ℕ = c.low_step.new.low in
+    let row : List ℕ = c.low_step.new.row in
     let lt : b < 128 = omega arith in
-    let len : length xs ≡ 16384 = c.loop-b.auto.table ∙ c.requires.2 in
+    let len : length xs ≡ 16384 = c.loop-b.auto.table ∙ c.requires.table_len in
     let ol : length ls ≡ 128 = length-set os b b ∙ c.loop-b.invariant.0 in
     let n = part_length xs b len lt in
     let m = front_length ls b 128 ol lt in
-    let rl : length row ≡ b + 1 = c.low-step.auto.row ∙ n in
-    let nl : length new ≡ b + 1 = c.low-step.auto.low ∙ m in
+    let rl : length row ≡ b + 1 = c.low_step.auto.row ∙ n in
+    let nl : length new ≡ b + 1 = c.low_step.auto.low ∙ m in
     let is : (a : ℕ) → a ≤ b → cond (leb (f b) (get_or (take (b + 1) ls) a 0)) b (get_or (take (b + 1) ls) a 0) ≡ low_day f a b = λ a h.
     elim (cases_eq a b) [
       | inl e ↦
@@ -47,11 +47,11 @@ loop-b-preserved c =
         | inr g ↦
             let e : j ≡ b = omega arith in
             let q : a ≤ b = omega arith in
-            ap (λ i. get_or (put xs b row) (i * 128 + a) 0) e ∙ put_same xs row b a len lt rl q ∙ c.low-step.ensures.row a (omega arith) ∙ is a q
+            ap (λ i. get_or (put xs b row) (i * 128 + a) 0) e ∙ put_same xs row b a len lt rl q ∙ c.low_step.ensures.row a (omega arith) ∙ is a q
             ∙ ap (low_day f a) (sym e)
       ]),
       (λ a j h l.
           let e : j ≡ b = omega arith in
           let q : a ≤ b = omega arith in
-          over_low ls new b a nl q ∙ c.low-step.ensures.low a (omega arith) ∙ is a q ∙ ap (low_day f a) (sym e)),
+          over_low ls new b a nl q ∙ c.low_step.ensures.low a (omega arith) ∙ is a q ∙ ap (low_day f a) (sym e)),
     )

@@ -22,7 +22,7 @@ loop-v-preserved-then-left-v c =
     let marks = c.loop-v.marks in
     let pairs = c.args.pairs.now in
     let top : v ≤ length pairs = c.loop-v.invariant.0 in
-    let here : u < length marks = omega (arith, c.loop-v.auto.marks, c.fill.ensures.len, c.requires.2) in
+    let here : u < length marks = omega (arith, c.loop-v.auto.marks, c.fill.ensures.len, c.requires.marks_len) in
     let zero : get_or marks u 0 ≡ 0 = c.loop-v.invariant.2 u (omega arith) in (
       omega arith,
       (λ j. elim (cases_eq j u) [
@@ -39,33 +39,37 @@ loop-v-preserved-then-left-v c =
           omega (arith, c.if-left-v.true, c.loop-v.invariant.3 k ws C)),
     )
 
-pub find-run-v-requires : goal.find-run-v-requires
-find-run-v-requires c =
+pub find_run-v-requires : goal.find_run-v-requires
+find_run-v-requires c =
     let u : ℕ = c.loop-v.v - 1 in
     let top : c.loop-v.v ≤ length c.args.pairs.now = c.loop-v.invariant.0 in
     let n = c.row.ensures.long in
-    let m = front_length c.args.left.now u 129 c.requires.1.1 (omega (arith, c.requires.0)) in
-    (n ∙ sym m, omega arith, λ p h. omega (arith, front_at c.args.left.now u p (omega arith), c.requires.4 p (omega arith), c.requires.0))
+    let m = front_length c.args.left.now u 129 c.requires.table_len.1 (omega (arith, c.requires.pairs_len_bound)) in
+    record {
+  row_len = n ∙ sym m;
+  row_nonzero = omega arith;
+  left_bound = λ p h. omega (arith, front_at c.args.left.now u p (omega arith), c.requires.left_bound p (omega arith), c.requires.pairs_len_bound);
+}
 
 pub loop-v-preserved : goal.loop-v-preserved
 loop-v-preserved c =
     let v : ℕ = c.loop-v.v in
     let u : ℕ = v - 1 in
-    let p : ℕ = c.find-run-v.result in
+    let p : ℕ = c.find_run-v.result in
     let marks = c.loop-v.marks in
     let left = c.args.left.now in
     let pairs = c.args.pairs.now in
     let d : ℕ = length pairs in
     let top : v ≤ d = c.loop-v.invariant.0 in
     let n = c.row.ensures.long in
-    let le : p ≤ u = omega (arith, c.find-run-v.ensures.within) in (
+    let le : p ≤ u = omega (arith, c.find_run-v.ensures.within) in (
       omega arith,
       c.loop-v.invariant.1,
       (λ j h. c.loop-v.invariant.2 j (omega arith)),
       (λ k ws C.
           let e : suc u ≡ v = omega arith in
           let S : ℕ → Bool = in_set k marks in
-          let L = c.requires.3 k ws C in
+          let L = c.requires.needs_of k ws C in
           let cell : (q : ℕ) → q ≤ u → get_or c.row.result.now q 0 ≡ forced k ws q v =
           λ q h. c.row.ensures.cells q h ∙ C.cells u (omega arith) q h ∙ ap (forced k ws q) e in
           let f : tabled left (suc u) ≡ get_or left v 0 = ap (tabled left) e in
@@ -75,7 +79,7 @@ loop-v-preserved c =
             | inr x ↦
                 let q : ℕ = x.0 in
                 let g : forced k ws q (suc u) ≡ forced k ws q v = ap (forced k ws q) e in
-                let r = c.find-run-v.ensures.found q (omega (arith, x.1)) (omega (arith, f, x.2, g, cell q x.1, front_at left u q x.1)) in
+                let r = c.find_run-v.ensures.found q (omega (arith, x.1)) (omega (arith, f, x.2, g, cell q x.1, front_at left u q x.1)) in
                 omega (arith, r, cell p le, front_at left u p le)
           ] in
           let more = missing_run k d S (k + p) (k + v) ws C.within (λ t l. day_before k marks v t c.loop-v.invariant.2 l) (omega arith) in
@@ -88,9 +92,9 @@ returns c =
     let pairs = c.args.pairs.now in
     let left = c.args.left.now in
     record {
-      marks = record { long = c.loop-v.auto.marks ∙ c.fill.ensures.len ∙ c.requires.2; marked = c.loop-v.invariant.1 };
+      marks = record { long = c.loop-v.auto.marks ∙ c.fill.ensures.len ∙ c.requires.marks_len; marked = c.loop-v.invariant.1 };
       shown = λ k ws C h.
           let e : c.loop-v.v ≡ 0 = omega arith in
-          let z : tabled left c.loop-v.v ≡ 0 = ap (tabled left) e ∙ (c.requires.3 k ws C).start in
+          let z : tabled left c.loop-v.v ≡ 0 = ap (tabled left) e ∙ (c.requires.needs_of k ws C).start in
           omega (arith, z, c.loop-v.invariant.3 k ws C, missing_rest (in_set k marks) (k + c.loop-v.v) ws);
     }

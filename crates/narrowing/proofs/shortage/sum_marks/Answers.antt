@@ -5,7 +5,7 @@ use Rattle.narrowing.proofs.Writes.{sums_none, sums_more}
 use Rattle.narrowing.proofs.shortage.sum_marks.Goals as goal
 
 pub loop-v-init : goal.loop-v-init
-loop-v-init c = sums_none (tabled c.args.marks.now) 255 c.args.before.now (omega (arith, c.requires.1))
+loop-v-init c = sums_none (tabled c.args.marks.now) 255 c.args.before.now (omega (arith, c.requires.before_len))
 
 pub loop-v-preserved : goal.loop-v-preserved
 loop-v-preserved c =

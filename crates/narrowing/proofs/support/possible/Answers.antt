@@ -10,7 +10,7 @@ use Rattle.narrowing.proofs.support.possible.Goals as goal
 
 pub returns-then-day-old : goal.returns-then-day-old
 returns-then-day-old c = record {
-  answer = no_day c.args.first c.args.pairs.now c.args.windows.now c.args.place c.args.day c.requires.2 (λ l m. omega (arith, c.then-day-old.either));
+  answer = no_day c.args.first c.args.pairs.now c.args.windows.now c.args.place c.args.day c.requires.place_in_bounds (λ l m. omega (arith, c.then-day-old.either));
   same = refl;
 }
 
@@ -21,12 +21,12 @@ count-requires c =
     let bs : List Window = c.args.windows.now in
     let i : ℕ = c.args.place in
     let t : ℕ = c.args.day in
-    let n = length-set bs i (bare (t, t)) in (
-      (omega (arith, c.requires.0), c.requires.0.0),
-      (closed_proper k pairs bs i t c.requires.1 c.requires.2 (omega arith) (omega arith)).within,
-      refl,
-      zeros 16384,
-    )
+    let n = length-set bs i (bare (t, t)) in record {
+  windows_len_bound = (omega (arith, c.requires.pairs_len_bound), c.requires.pairs_len_bound.0);
+  within = (closed_proper k pairs bs i t c.requires.proper c.requires.place_in_bounds (omega arith) (omega arith)).within;
+  table_len = refl;
+  blank = zeros 16384;
+}
 
 pub returns-in-Some : goal.returns-in-Some
 returns-in-Some c =
@@ -36,7 +36,7 @@ returns-in-Some c =
     let i : ℕ = c.args.place in
     let t : ℕ = c.args.day in
     record {
-      answer = early_no k pairs bs i t c.requires.1 c.requires.2 (omega arith) (omega arith) _ (c.in-Some.ensures k _ c.count.ensures);
+      answer = early_no k pairs bs i t c.requires.proper c.requires.place_in_bounds (omega arith) (omega arith) _ (c.in-Some.ensures k _ c.count.ensures);
       same = c.drop-guard.ensures ∙ put_back bs i (bare (t, t)) (bare (0, 0));
     }
 
@@ -48,6 +48,6 @@ returns c =
     let i : ℕ = c.args.place in
     let t : ℕ = c.args.day in
     record {
-      answer = by_need k pairs bs i t c.requires.1 c.requires.2 (omega arith) (omega arith) (c.in-default.ensures k _ c.count.ensures) (tabled c.needs-left.new.left) (c.needs-left.ensures.needs k _ c.count.ensures);
+      answer = by_need k pairs bs i t c.requires.proper c.requires.place_in_bounds (omega arith) (omega arith) (c.in_default.ensures k _ c.count.ensures) (tabled c.needs_left.new.left) (c.needs_left.ensures.needs k _ c.count.ensures);
       same = c.drop-guard-2.ensures ∙ put_back bs i (bare (t, t)) (bare (0, 0));
     }

@@ -22,14 +22,14 @@ loop-p-preserved c =
     let end : ℕ = c.args.end in
     let f : ℕ → ℕ = λ j. cond (t j) end (old j) in
     let xs = c.loop-p.latest in
-    let m : ℕ = c.end-if-tight-mark.result in
-    let em : m ≡ cond (t p) end 0 = c.end-if-tight-mark.ensures in
+    let m : ℕ = c.end_if_tight-mark.result in
+    let em : m ≡ cond (t p) end 0 = c.end_if_tight-mark.ensures in
     let x : ℕ = c.later.result in
     let is : x ≡ f p =
-    c.later.ensures ∙ ap (λ y. max y m) (c.loop-p.invariant.2 p (omega arith)) ∙ ap (max (old p)) em ∙ marked (t p) (old p) end (c.requires.4 p (omega arith)) in
+    c.later.ensures ∙ ap (λ y. max y m) (c.loop-p.invariant.2 p (omega arith)) ∙ ap (max (old p)) em ∙ marked (t p) (old p) end (c.requires.latest_bound p (omega arith)) in
     let z = c.later-seen.ensures in (
       (λ e j h. elim (cases_eq j p) [
-        | inl i ↦ let y : t p ≡ false = none_seen (t p) end c.requires.3 (sym em ∙ omega arith) in ap t i ∙ y
+        | inl i ↦ let y : t p ≡ false = none_seen (t p) end c.requires.end_nonzero (sym em ∙ omega arith) in ap t i ∙ y
         | inr ne ↦ c.loop-p.invariant.0 (omega arith) j (omega arith)
       ]),
       (λ j h. set_up xs f p x (omega arith) is c.loop-p.invariant.1 j (omega arith)),

@@ -11,33 +11,33 @@ use Rattle.narrowing.proofs.Parts.{front_length, front_at, over_low, over_high}
 use Rattle.narrowing.proofs.TightEnds.{tells_tight, EarlyTo, early_more, early_all, LateTo, late_more, late_all}
 use Rattle.narrowing.proofs.tight.tight_ends.Goals as goal
 
-pub overflow-sub-windows : goal.overflow-sub-windows
-overflow-sub-windows c = omega (arith, c.requires.5 (c.loop-v.v + 1) (omega arith))
+pub overflow_sub-windows : goal.overflow_sub-windows
+overflow_sub-windows c = omega (arith, c.requires.needs_meet (c.loop-v.v + 1) (omega arith))
 
-pub tight-row-requires : goal.tight-row-requires
-tight-row-requires c =
+pub tight_row-requires : goal.tight_row-requires
+tight_row-requires c =
     let b : ℕ = c.loop-v.v in
     let us : ℕ → ℕ = most c.args.pairs.now in
     let ys = c.args.before.now in
     let zs = c.args.left.now in
     let n = c.row.ensures.long in
-    let my = front_length ys b 129 c.requires.2.0 (omega arith) in
-    let mz = front_length zs b 129 c.requires.2.1 (omega arith) in
-    let ml = front_length c.loop-v.latest b 129 (c.loop-v.auto.latest ∙ c.requires.3.1) (omega arith) in (
-      (n ∙ sym my, n ∙ sym mz, n ∙ sym ml, n),
-      (λ p h. omega (arith, front_at ys b p (omega arith), c.requires.4 p (omega arith), c.requires.4 (b + 1) (omega arith), total_grows us p (b + 1) (omega arith))),
-      (λ p h. omega (arith, front_at zs b p (omega arith), c.requires.5 p (omega arith), c.requires.0)),
-      omega arith,
-      (λ p h. omega (arith, front_at c.loop-v.latest b p (omega arith), c.loop-v.invariant.1 p)),
-    )
+    let my = front_length ys b 129 c.requires.before_len.0 (omega arith) in
+    let mz = front_length zs b 129 c.requires.before_len.1 (omega arith) in
+    let ml = front_length c.loop-v.latest b 129 (c.loop-v.auto.latest ∙ c.requires.earliest_len.1) (omega arith) in record {
+  row_len = (n ∙ sym my, n ∙ sym mz, n ∙ sym ml, n);
+  before_bound = (λ p h. omega (arith, front_at ys b p (omega arith), c.requires.summed p (omega arith), c.requires.summed (b + 1) (omega arith), total_grows us p (b + 1) (omega arith)));
+  left_bound = (λ p h. omega (arith, front_at zs b p (omega arith), c.requires.needs_meet p (omega arith), c.requires.pairs_len_bound));
+  end_nonzero = omega arith;
+  latest_bound = (λ p h. omega (arith, front_at c.loop-v.latest b p (omega arith), c.loop-v.invariant.1 p));
+}
 
 pub loop-v-init : goal.loop-v-init
 loop-v-init c = (
   (λ k ws C n. (
     record { earliest = λ p q h l t. absurd (omega arith); tight = λ q h l. absurd (omega arith) },
-    record { latest = λ p q h l t. absurd (omega arith); tight = λ p h. absurd (omega (arith, c.requires.6 p)) },
+    record { latest = λ p q h l t. absurd (omega arith); tight = λ p h. absurd (omega (arith, c.requires.blank p)) },
   )),
-  λ p. omega (arith, c.requires.6 p),
+  λ p. omega (arith, c.requires.blank p),
 )
 
 pub loop-v-preserved : goal.loop-v-preserved
@@ -52,15 +52,15 @@ loop-v-preserved c =
     let N : ℕ → ℕ = tabled rs in
     let es : List ℕ = c.loop-v.earliest in
     let ls : List ℕ = c.loop-v.latest in
-    let new : List ℕ = c.tight-row.new.latest in
-    let x : ℕ = c.tight-row.result in
+    let new : List ℕ = c.tight_row.new.latest in
+    let x : ℕ = c.tight_row.result in
     let top : ℕ = get_or ys (b + 1) 0 in
     let rest : ℕ = c.args.windows - get_or rs (b + 1) 0 in
     let row = c.row.result.now in
     let n = c.row.ensures.long in
-    let ml = front_length ls b 129 (c.loop-v.auto.latest ∙ c.requires.3.1) (omega arith) in
-    let nl : length new ≡ b + 1 = c.tight-row.auto.latest ∙ ml in
-    let el : length es ≡ 129 = c.loop-v.auto.earliest ∙ c.requires.3.0 in
+    let ml = front_length ls b 129 (c.loop-v.auto.latest ∙ c.requires.earliest_len.1) (omega arith) in
+    let nl : length new ≡ b + 1 = c.tight_row.auto.latest ∙ ml in
+    let el : length es ≡ 129 = c.loop-v.auto.earliest ∙ c.requires.earliest_len.0 in
     let t : ℕ → Bool = tight? row (take (b + 1) ys) (take (b + 1) zs) top rest in
     let tot : total us (b + 1) ≡ total us (suc b) = ap (total us) (add-one b) in
     let nx : get_or rs (b + 1) 0 ≡ N (suc b) = ap N (add-one b) in
@@ -68,7 +68,7 @@ loop-v-preserved c =
     let l : ℕ → ℕ = tabled (new ++ drop (b + 1) ls) in
     let here : m (suc b) ≡ x = ap m (sym (add-one b)) ∙ get_or-set_same es (b + 1) x 0 (omega arith) in
     let wrote : (p : ℕ) → p ≤ b → l p ≡ cond (t p) (suc b) (tabled ls p) = λ p h.
-    over_low ls new b p nl h ∙ c.tight-row.ensures.marks p (omega arith) ∙ ap (λ e. cond (t p) e (get_or (take (b + 1) ls) p 0)) (add-one b)
+    over_low ls new b p nl h ∙ c.tight_row.ensures.marks p (omega arith) ∙ ap (λ e. cond (t p) e (get_or (take (b + 1) ls) p 0)) (add-one b)
     ∙ ap (cond (t p) (suc b)) (front_at ls b p h) in
     let kept : (p : ℕ) → b < p → l p ≡ tabled ls p = λ p h. over_high ls new b p nl h in
     let more : (k : ℕ) (ws : List Window) → Counted k (length ps) ws c.args.table.now → length ws ≡ c.args.windows
@@ -76,16 +76,16 @@ loop-v-preserved c =
     let is : (p : ℕ) → p ≤ b → (t p ≡ true → Tight k ps ws M N p (suc b)) × (Tight k ps ws M N p (suc b) → t p ≡ true) = λ p h.
     tells_tight k ps ws M N row (take (b + 1) ys) (take (b + 1) zs) top rest b p
     (c.row.ensures.cells p h ∙ C.cells b (omega arith) p h)
-    (omega (arith, front_at ys b p h, c.requires.4 p (omega arith), c.requires.4 (b + 1) (omega arith)))
-    (front_at zs b p h) (omega (arith, c.requires.5 (suc b) (omega arith))) (omega arith) in
+    (omega (arith, front_at ys b p h, c.requires.summed p (omega arith), c.requires.summed (b + 1) (omega arith)))
+    (front_at zs b p h) (omega (arith, c.requires.needs_meet (suc b) (omega arith))) (omega arith) in
     let old = c.loop-v.invariant.0 k ws C w in
     let T : ℕ → Type 0 = λ p. Tight k ps ws M N p (suc b) in (
       early_more k ps ws M N b (tabled es) m old.0 (λ q h. get_or-set_other es (b + 1) q x 0 (omega arith))
           (λ p h ti. elim (cases_lt p x) [
-            | inl i ↦ absurd (both_ways (t p) (c.tight-row.ensures.none p i (omega arith)) ((is p h).1 ti))
+            | inl i ↦ absurd (both_ways (t p) (c.tight_row.ensures.none p i (omega arith)) ((is p h).1 ti))
             | inr i ↦ omega (arith, here)
           ])
-          (λ lt. let lx : x < b + 1 = omega (arith, here) in subst T (sym here) ((is x (omega arith)).0 (c.tight-row.ensures.one lx))),
+          (λ lt. let lx : x < b + 1 = omega (arith, here) in subst T (sym here) ((is x (omega arith)).0 (c.tight_row.ensures.one lx))),
       late_more k ps ws M N b (tabled ls) l t old.1 is wrote kept,
     ) in
     let P : ℕ → Type 0 = λ n. (k : ℕ) (ws : List Window) → Counted k (length ps) ws c.args.table.now → length ws ≡ c.args.windows
