@@ -1,5 +1,5 @@
 -- The pairs of each kind of calendar are those that it is asked for.
-use Rattle.std.proofs.Common.{◌≡◌, ℕ, zero, suc, ◌<◌, true, false, leb, List, [], ◌∷◌, length, get_or, refl, ⊎_elim, arith}
+use Rattle.std.proofs.Common.{◌≡◌, ℕ, zero, suc, ◌<◌, true, leb, List, [], ◌∷◌, length, get_or, refl, ⊎_elim, arith}
 use Rattle.std.proofs.lemmas.List.{get_or_past}
 use Rattle.std.proofs.lemmas.Bool.{false≢true, cond-true, cond-false, cases_Bool, and_from, and_parts, or_left, or_right, or_cases, le-leb, leb-true}
 use Rattle.calendar.specs.Asked.{AsListed, AsClosing, Within}

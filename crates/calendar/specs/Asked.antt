@@ -1,5 +1,5 @@
 -- What each kind of calendar is asked to be, said of its pairs day by day.
-use Rattle.std.specs.Prelude.{◌≡◌, ℕ, ◌+◌, ◌%◌, ◌<◌, ◌≤◌, ◌⊎◌, List, length, slice_index_or}
+use Rattle.std.specs.Prelude.{◌≡◌, ℕ, ◌+◌, ◌%◌, ◌<◌, ◌≤◌, List, length, slice_index_or}
 
 -- the first days have the pairs of the list, in its order, and all later days (0, 0)
 pub record AsListed (rows : List (ℕ × ℕ)) (told : ℕ → ℕ × ℕ) : Type 0 where

@@ -1,6 +1,6 @@
 -- Numbers read digit by digit.
-use Rattle.std.proofs.Common.{◌≡◌, ℕ, suc, ◌+◌, ◌-◌, ◌*◌, ◌<◌, ◌≤◌, Bool, true, false, cond, not, ◌&&◌, eqb, leb, List, [], ◌∷◌, Some, None, Option, sym, refl, ap, ◌∙◌, arith}
-use Rattle.std.proofs.lemmas.Bool.{cond-true, cond-false, lt-leb, and_left, and_right, leb-true, leb-false}
+use Rattle.std.proofs.Common.{◌≡◌, ℕ, ◌+◌, ◌-◌, ◌*◌, ◌<◌, ◌≤◌, Bool, true, false, cond, not, ◌&&◌, leb, List, [], ◌∷◌, Some, None, Option, refl, ap, arith}
+use Rattle.std.proofs.lemmas.Bool.{cond-false, lt-leb, and_right, leb-true, leb-false}
 use Rattle.reading.specs.Numbers.{digit, digits, value, unfit, number_of}
 use Rattle.reading.specs.Steps.{step_of}
 

@@ -1,5 +1,5 @@
 -- What a reader has left, when the next is known.
-use Rattle.std.proofs.Common.{◌≡◌, ℕ, List, [], ◌∷◌, ◌++◌, Some, None, Ok, Err, Option, Result, sym, refl, ap, ◌∙◌, arith}
+use Rattle.std.proofs.Common.{◌≡◌, ℕ, List, [], ◌∷◌, ◌++◌, Some, None, Ok, Err, Result, refl, ap, arith}
 use Rattle.std.proofs.lemmas.List.{append_assoc}
 use Rattle.reading.specs.declared.words.Unfit.{Unfit}
 use Rattle.reading.specs.Results.{map_ok}

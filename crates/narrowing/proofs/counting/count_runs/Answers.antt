@@ -28,11 +28,11 @@ grown k d ws b xs ss W len lt row low high p h =
 pub tally-requires : goal.tally-requires
 tally-requires g c =
     record {
-  records_len_bound = c.requires.records_len_bound;
-  within = within_more c.args.day c.args.days 128 (map g.R.Record.span c.args.records.now) c.requires.days_bound c.requires.within;
-  table_len = c.requires.table_len;
-  blank = c.requires.blank;
-}
+      records_len_bound = c.requires.records_len_bound;
+      within = within_more c.args.day c.args.days 128 (map g.R.Record.span c.args.records.now) c.requires.days_bound c.requires.within;
+      table_len = c.requires.table_len;
+      blank = c.requires.blank;
+    }
 
 pub loop-last-init : goal.loop-last-init
 loop-last-init g c = (
@@ -52,12 +52,12 @@ add_row-requires g c =
     let len : length xs ≡ 16384 = c.loop-last.auto.table ∙ c.tally.auto.table ∙ c.requires.table_len in
     let n = part_length xs b len (omega arith) in
     let m = front_length ss b 128 c.loop-last.invariant.0 (omega arith) in record {
-  row_len = n ∙ sym m;
-  fits = λ p h.
+      row_len = n ∙ sym m;
+      fits = λ p h.
           let le : p ≤ b = omega arith in
           let all = grown c.args.day c.args.days ws b xs ss c.requires.within len (omega arith) (λ a i. c.loop-last.invariant.2 b (omega arith) (omega arith) a i) c.loop-last.invariant.3 c.loop-last.invariant.4 p le in
           omega (arith, all, forced_le c.args.day ws p (suc b), length-map c.args.records.now g.R.Record.span, c.requires.records_len_bound);
-}
+    }
 
 pub loop-last-preserved : goal.loop-last-preserved
 loop-last-preserved g c =

@@ -33,11 +33,11 @@ count_meeting-requires g c =
     let ws = map g.R.Record.span c.args.records.now in
     let F = front_ready c.args.first (length pairs) ws c.mark_shortage.new.marks (drop (length pairs) c.args.marks.now) c.mark_shortage.ensures.marks c.requires.pairs_len_bound c.requires.proper.within in
     record {
-  records_len_bound = c.requires.records_len_bound;
-  marks_len_bound = F.0;
-  marks = F.1;
-  within = F.2;
-}
+      records_len_bound = c.requires.records_len_bound;
+      marks_len_bound = F.0;
+      marks = F.1;
+      within = F.2;
+    }
 
 pub returns-in-Some : goal.returns-in-Some
 returns-in-Some g c =

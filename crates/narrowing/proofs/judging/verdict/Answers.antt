@@ -14,11 +14,11 @@ judge-requires g c =
     let P = passed c.args.first c.args.pairs.now ws (length c.args.marks.now) (sym c.in_ok-check.ensures) in
     let few : length records ≤ 512 = omega (arith, P.few_records, length-map records g.R.Record.span) in
     record {
-  pairs_len_bound = P.range.few_days;
-  pairs_in_bounds = P.range.enough_marks;
-  records_len_bound = few;
-  proper = P.proper;
-}
+      pairs_len_bound = P.range.few_days;
+      pairs_in_bounds = P.range.enough_marks;
+      records_len_bound = few;
+      proper = P.proper;
+    }
 
 pub returns : goal.returns
 returns g c =

@@ -20,10 +20,10 @@ narrow_ready-requires g c =
     let P = passed k pairs ws n ok in
     let few : length records ≤ 512 = omega (arith, P.few_records, length-map records g.R.Record.span) in
     record {
-  pairs_len_bound = (P.range.few_days, few);
-  proper = P.proper;
-  planned = (told.means ok).accepts.0 refl;
-}
+      pairs_len_bound = (P.range.few_days, few);
+      proper = P.proper;
+      planned = (told.means ok).accepts.0 refl;
+    }
 
 pub returns : goal.returns
 returns g c =

@@ -26,14 +26,14 @@ tight_ends-requires g c =
     let M : ℕ → ℕ = tabled c.args.left.now in
     let N : ℕ → ℕ = tabled c.needs_right.new.right in
     let Y : Ready k pairs ws M N = ready k pairs ws M N c.requires.proper c.requires.planned c.requires.need_left (c.needs_right.ensures k ws c.requires.counted) in record {
-  pairs_len_bound = c.requires.pairs_len_bound;
-  table_len = c.requires.table_len.0;
-  before_len = (c.requires.table_len.1, c.requires.table_len.2, c.needs_right.auto.right);
-  earliest_len = (refl, refl);
-  summed = c.requires.summed;
-  needs_meet = (λ v h. omega (arith, needs_within k pairs ws M N Y v h, length-map c.args.records.now g.R.Record.span));
-  blank = zeros 129;
-}
+      pairs_len_bound = c.requires.pairs_len_bound;
+      table_len = c.requires.table_len.0;
+      before_len = (c.requires.table_len.1, c.requires.table_len.2, c.needs_right.auto.right);
+      earliest_len = (refl, refl);
+      summed = c.requires.summed;
+      needs_meet = (λ v h. omega (arith, needs_within k pairs ws M N Y v h, length-map c.args.records.now g.R.Record.span));
+      blank = zeros 129;
+    }
 
 pub lows-requires : goal.lows-requires
 lows-requires g c = record {
@@ -62,10 +62,10 @@ put_windows-requires g c =
     let table : List ℕ = c.highs.new.table in
     let n = length-map c.args.records.now g.R.Record.span in
     let L : Lows (length pairs) early table = lows_kept (length pairs) early late c.lows.new.table table c.lows.ensures c.highs.ensures.above c.highs.ensures.below in record {
-  table_len = c.highs.auto.table ∙ c.lows.auto.table;
-  within = within_more k (length pairs) 128 ws c.requires.pairs_len_bound.0 c.requires.proper.within;
-  shorter = found_shorter k pairs ws M N early late table Y c.requires.planned (c.tight_ends.ensures.early k ws c.requires.counted n) (c.tight_ends.ensures.late k ws c.requires.counted n) L c.highs.ensures.above;
-}
+      table_len = c.highs.auto.table ∙ c.lows.auto.table;
+      within = within_more k (length pairs) 128 ws c.requires.pairs_len_bound.0 c.requires.proper.within;
+      shorter = found_shorter k pairs ws M N early late table Y c.requires.planned (c.tight_ends.ensures.early k ws c.requires.counted n) (c.tight_ends.ensures.late k ws c.requires.counted n) L c.highs.ensures.above;
+    }
 
 pub returns : goal.returns
 returns g c =

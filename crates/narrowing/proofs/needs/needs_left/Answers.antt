@@ -25,9 +25,9 @@ reach-requires c =
     let n = c.row.ensures.long in
     let m = front_length ys v 129 (c.loop-v.auto.left ∙ length-set c.args.left.now 0 0 ∙ c.requires.left_len) (omega arith) in
     record {
-  row_len = n ∙ sym m;
-  small = λ p h. omega (arith, front_at ys v p (omega arith), c.loop-v.invariant.1 p (omega arith));
-}
+      row_len = n ∙ sym m;
+      small = λ p h. omega (arith, front_at ys v p (omega arith), c.loop-v.invariant.1 p (omega arith));
+    }
 
 pub loop-v-preserved : goal.loop-v-preserved
 loop-v-preserved c =

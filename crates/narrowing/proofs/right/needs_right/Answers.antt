@@ -22,9 +22,9 @@ lift-requires c =
     let n = c.row.ensures.long in
     let m = front_length ys v 129 (c.loop-v.auto.right ∙ c.requires.right_len) (omega arith) in
     record {
-  row_len = n ∙ sym m;
-  after_bound = omega (arith, c.loop-v.invariant.1 (v + 1) (omega arith));
-}
+      row_len = n ∙ sym m;
+      after_bound = omega (arith, c.loop-v.invariant.1 (v + 1) (omega arith));
+    }
 
 pub loop-v-preserved : goal.loop-v-preserved
 loop-v-preserved c =

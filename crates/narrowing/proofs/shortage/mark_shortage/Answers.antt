@@ -46,10 +46,10 @@ find_run-v-requires c =
     let n = c.row.ensures.long in
     let m = front_length c.args.left.now u 129 c.requires.table_len.1 (omega (arith, c.requires.pairs_len_bound)) in
     record {
-  row_len = n ∙ sym m;
-  row_nonzero = omega arith;
-  left_bound = λ p h. omega (arith, front_at c.args.left.now u p (omega arith), c.requires.left_bound p (omega arith), c.requires.pairs_len_bound);
-}
+      row_len = n ∙ sym m;
+      row_nonzero = omega arith;
+      left_bound = λ p h. omega (arith, front_at c.args.left.now u p (omega arith), c.requires.left_bound p (omega arith), c.requires.pairs_len_bound);
+    }
 
 pub loop-v-preserved : goal.loop-v-preserved
 loop-v-preserved c =

@@ -22,11 +22,11 @@ count-requires c =
     let i : ℕ = c.args.place in
     let t : ℕ = c.args.day in
     let n = length-set bs i (bare (t, t)) in record {
-  windows_len_bound = (omega (arith, c.requires.pairs_len_bound), c.requires.pairs_len_bound.0);
-  within = (closed_proper k pairs bs i t c.requires.proper c.requires.place_in_bounds (omega arith) (omega arith)).within;
-  table_len = refl;
-  blank = zeros 16384;
-}
+      windows_len_bound = (omega (arith, c.requires.pairs_len_bound), c.requires.pairs_len_bound.0);
+      within = (closed_proper k pairs bs i t c.requires.proper c.requires.place_in_bounds (omega arith) (omega arith)).within;
+      table_len = refl;
+      blank = zeros 16384;
+    }
 
 pub returns-in-Some : goal.returns-in-Some
 returns-in-Some c =

@@ -39,10 +39,10 @@ possible-requires g c =
     let Q : List Window → Type 0 = Proper k pairs in
     let here = asked_place k (length pairs) n c.args.place c.args.day (length c.args.work.now) (sym c.is_askable.ensures ∙ c.if-not-is_askable.false) in
     record {
-  pairs_len_bound = (P.range.few_days, omega (arith, P.few_records));
-  proper = subst Q (sym spans) P.proper;
-  place_in_bounds = omega arith;
-}
+      pairs_len_bound = (P.range.few_days, omega (arith, P.few_records));
+      proper = subst Q (sym spans) P.proper;
+      place_in_bounds = omega arith;
+    }
 
 pub returns : goal.returns
 returns g c =

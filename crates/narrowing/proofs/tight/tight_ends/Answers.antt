@@ -24,12 +24,12 @@ tight_row-requires c =
     let my = front_length ys b 129 c.requires.before_len.0 (omega arith) in
     let mz = front_length zs b 129 c.requires.before_len.1 (omega arith) in
     let ml = front_length c.loop-v.latest b 129 (c.loop-v.auto.latest ∙ c.requires.earliest_len.1) (omega arith) in record {
-  row_len = (n ∙ sym my, n ∙ sym mz, n ∙ sym ml, n);
-  before_bound = (λ p h. omega (arith, front_at ys b p (omega arith), c.requires.summed p (omega arith), c.requires.summed (b + 1) (omega arith), total_grows us p (b + 1) (omega arith)));
-  left_bound = (λ p h. omega (arith, front_at zs b p (omega arith), c.requires.needs_meet p (omega arith), c.requires.pairs_len_bound));
-  end_nonzero = omega arith;
-  latest_bound = (λ p h. omega (arith, front_at c.loop-v.latest b p (omega arith), c.loop-v.invariant.1 p));
-}
+      row_len = (n ∙ sym my, n ∙ sym mz, n ∙ sym ml, n);
+      before_bound = (λ p h. omega (arith, front_at ys b p (omega arith), c.requires.summed p (omega arith), c.requires.summed (b + 1) (omega arith), total_grows us p (b + 1) (omega arith)));
+      left_bound = (λ p h. omega (arith, front_at zs b p (omega arith), c.requires.needs_meet p (omega arith), c.requires.pairs_len_bound));
+      end_nonzero = omega arith;
+      latest_bound = (λ p h. omega (arith, front_at c.loop-v.latest b p (omega arith), c.loop-v.invariant.1 p));
+    }
 
 pub loop-v-init : goal.loop-v-init
 loop-v-init c = (

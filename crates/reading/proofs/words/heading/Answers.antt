@@ -1,4 +1,4 @@
-use Rattle.std.proofs.Common.{◌≡◌, true, leb, length, Some, None, ap, arith}
+use Rattle.std.proofs.Common.{◌≡◌, leb, length, Some, None, ap, arith}
 use Rattle.std.proofs.lemmas.Bool.{cond-true, le-leb}
 use Rattle.reading.specs.Pieces.{first, rest, parts}
 use Rattle.reading.specs.Told.{told}

@@ -1,4 +1,4 @@
-use Rattle.std.proofs.Common.{◌≡◌, Ok, sym, refl, ap, ◌∙◌}
+use Rattle.std.proofs.Common.{◌≡◌, Ok, sym, refl}
 use Rattle.calendar.specs.Checks.{closing_check}
 use Rattle.calendar.proofs.AsAsked.{as_closing}
 use Rattle.calendar.proofs.layer.Closing.new.Goals as goal

@@ -1,6 +1,5 @@
-use Rattle.std.proofs.Common.{◌≡◌, ◌<◌, ◌∷◌, length, take, Some, Ok, sym, refl, ap, ◌∙◌, arith}
+use Rattle.std.proofs.Common.{◌≡◌, ◌<◌, ◌∷◌, length, take, Some, Ok, sym, ap, ◌∙◌, arith}
 use Rattle.std.proofs.lemmas.List.{append-nil, take_more_set, length-set}
-use Rattle.reading.specs.Pieces.{rest}
 use Rattle.reading.specs.Told.{told, fields_left}
 use Rattle.reading.specs.Words.{number, values, with_first}
 use Rattle.reading.proofs.Readers.{first_some, first_none, in_front, in_front_more}

@@ -1,7 +1,7 @@
-use Rattle.std.proofs.Common.{◌≡◌, ◌+◌, length, drop, sym, ap, ◌∙◌, arith}
+use Rattle.std.proofs.Common.{length, drop, sym, ap, ◌∙◌, arith}
 use Rattle.std.proofs.lemmas.List.{take_rest, length-drop}
 use Rattle.reading.specs.Pieces.{parts}
-use Rattle.reading.proofs.Cuts.{pieces_few, length_words, no_words_at}
+use Rattle.reading.proofs.Cuts.{pieces_few, length_words}
 use Rattle.reading.proofs.words.Fields.left.Goals as goal
 
 pub overflow_add-result : goal.overflow_add-result
