@@ -7,7 +7,7 @@ use Rattle.plans.specs.Sets.{meeting, needed, run_marks}
 use Rattle.plans.specs.Narrowing.{Possible, Smallest, Largest, Leads}
 use Rattle.ledger.specs.Orders.{numbers, holds, place, leaving}
 use Rattle.ledger.specs.Ledger.{Calendar, Ledger, horizon, pairs, windows, Fits}
-use Rattle.ledger.specs.Calls.{Edit, Call, Call.edit, Call.window, Call.probe, Call.plan, Call.turn, edits, edit_subject, edited, made, checks, first_fault, most_held, last_today}
+use Rattle.ledger.specs.Calls.{Edit, Call, Call.edit, edits, edit_subject, edited, made, checks, first_fault, most_held, last_today}
 use Rattle.ledger.specs.Replies.{Reply, Reply.days, Reply.says, Reply.planned, Reply.out, Reply.lacks, reply, number_of, refuses, Allowed}
 use Rattle.ledger.specs.Lives.{Life, next, after, stands}
 use Rattle.ledger.specs.Histories.{History, Reaches, Deed, account, deeds_of, admissions, withdrawals, turns, leavings, day_after, last_window, lit_after}

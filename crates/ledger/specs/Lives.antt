@@ -1,5 +1,5 @@
 -- The life of a book: its ledger, and in a trial the ledger that began it.
-use Rattle.std.specs.Prelude.{ℕ, Bool, true, false, cond, not, [], is_some, Some, None, Option}
+use Rattle.std.specs.Prelude.{Bool, true, false, cond, not, [], is_some, Some, None, Option}
 use Rattle.ledger.specs.Ledger.{Calendar, Ledger}
 use Rattle.ledger.specs.Calls.{Call, Call.edit, Call.douse, Call.window, Call.probe, Call.plan, Call.turn, Call.begin, Call.keep, Call.undo, made}
 use Rattle.ledger.specs.Replies.{reply, refuses}

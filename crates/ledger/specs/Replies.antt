@@ -1,6 +1,5 @@
 -- The reply to each call, and how the caller's lists and the ledger stand afterwards.
 use Rattle.std.specs.Prelude.{◌≡◌, ℕ, Bool, true, false, cond, List, [], ◌++◌, length, drop, Some, None, Option}
-use Rattle.plans.specs.Plans.{Window}
 use Rattle.plans.specs.Sets.{Marks, run_marks, ShowsShortage}
 use Rattle.plans.specs.Replies.{Reply as Weight, Reply.accepted, Reply.overfull, Reply.short}
 use Rattle.ledger.specs.Orders.{leaving}

@@ -23,11 +23,11 @@ loop-place-init c =
     let pairs : List Pair = c.args.pairs.now in
     let bs : List Window = c.args.windows.now in
     let few : length pairs ≤ 128 = (passed k pairs (map span_of bs) (length pairs) c.requires).range.few_days in
-    let kept = begun k pairs bs c.narrow.new.records 128 _ c.narrow.result c.requires few c.narrow.ensures.answer c.in-default.is c.narrow.ensures.records in
+    let kept = begun k pairs bs c.narrow.new.records 128 _ c.narrow.result c.requires few c.narrow.ensures.answer c.in_default.is c.narrow.ensures.records in
     (kept.0, refl)
 
-pub first-days-requires : goal.first-days-requires
-first-days-requires c =
+pub first_days-requires : goal.first_days-requires
+first_days-requires c =
     let bs : List Window = c.loop-place.windows in
     omega (arith, (passed c.args.first c.args.pairs.now (map span_of bs) (length c.args.pairs.now) c.loop-place.invariant.0.passes).few_records, length-map bs span_of)
 
@@ -37,7 +37,7 @@ returns c =
     let pairs : List Pair = c.args.pairs.now in
     let bs : List Window = c.args.windows.now in
     let few : length pairs ≤ 128 = (passed k pairs (map span_of bs) (length pairs) c.requires).range.few_days in
-    let kept = begun k pairs bs c.narrow.new.records 128 _ c.narrow.result c.requires few c.narrow.ensures.answer c.in-default.is c.narrow.ensures.records in
+    let kept = begun k pairs bs c.narrow.new.records 128 _ c.narrow.result c.requires few c.narrow.ensures.answer c.in_default.is c.narrow.ensures.records in
     let size : c.loop-place.place ≡ length c.loop-place.windows = omega arith in
     ap (λ ts. Some ts) c.first_days.ensures ∙ ended k pairs c.loop-place.place c.loop-place.windows c.loop-place.invariant.0 size
     ∙ ap (option_map padded) (c.loop-place.invariant.1 ∙ kept.1)

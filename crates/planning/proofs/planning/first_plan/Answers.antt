@@ -11,44 +11,44 @@ use Rattle.planning.specs.Planned.{Planned, padded, past_checks, planned_of, Pla
 use Rattle.planning.proofs.Answered.{full_length, planned_means}
 use Rattle.planning.proofs.planning.first_plan.Goals as goal
 
-pub windows-of-windows-requires : goal.windows-of-windows-requires
-windows-of-windows-requires g c =
+pub windows_of-windows-requires : goal.windows_of-windows-requires
+windows_of-windows-requires g c =
     let pairs : List Pair = c.args.pairs.now in
     let records = c.args.records.now in
     let ws : List Window = map g.R.Record.span records in
-    let ok : checked c.args.first pairs ws (length pairs) ≡ Ok tt = sym c.in-ok-check.ensures in
+    let ok : checked c.args.first pairs ws (length pairs) ≡ Ok tt = sym c.in_ok-check.ensures in
     omega (arith, (passed c.args.first pairs ws (length pairs) ok).few_records, length-map records g.R.Record.span)
 
-pub slice-bounds-windows-end : goal.slice-bounds-windows-end
-slice-bounds-windows-end g c =
+pub slice_bounds-windows-end : goal.slice_bounds-windows-end
+slice_bounds-windows-end g c =
     let pairs : List Pair = c.args.pairs.now in
     let records = c.args.records.now in
     let ws : List Window = map g.R.Record.span records in
-    let ok : checked c.args.first pairs ws (length pairs) ≡ Ok tt = sym c.in-ok-check.ensures in
+    let ok : checked c.args.first pairs ws (length pairs) ≡ Ok tt = sym c.in_ok-check.ensures in
     let few = (passed c.args.first pairs ws (length pairs) ok).few_records in
     let long = length-map records g.R.Record.span in
-    let size = full_length ws c.windows-of-windows.result few c.windows-of-windows.ensures in
+    let size = full_length ws c.windows_of-windows.result few c.windows_of-windows.ensures in
     omega arith
 
-pub slice-bounds-plan-windows-end : goal.slice-bounds-plan-windows-end
-slice-bounds-plan-windows-end g c =
+pub slice_bounds-plan_windows-end : goal.slice_bounds-plan_windows-end
+slice_bounds-plan_windows-end g c =
     let pairs : List Pair = c.args.pairs.now in
     let records = c.args.records.now in
     let ws : List Window = map g.R.Record.span records in
-    let ok : checked c.args.first pairs ws (length pairs) ≡ Ok tt = sym c.in-ok-check.ensures in
+    let ok : checked c.args.first pairs ws (length pairs) ≡ Ok tt = sym c.in_ok-check.ensures in
     let few = (passed c.args.first pairs ws (length pairs) ok).few_records in
     let long = length-map records g.R.Record.span in
-    let size = full_length ws c.windows-of-windows.result few c.windows-of-windows.ensures in
-    sym (length-take-le (length records) c.windows-of-windows.result (omega arith))
+    let size = full_length ws c.windows_of-windows.result few c.windows_of-windows.ensures in
+    sym (length-take-le (length records) c.windows_of-windows.result (omega arith))
 
-pub plan-windows-requires : goal.plan-windows-requires
-plan-windows-requires g c =
+pub plan_windows-requires : goal.plan_windows-requires
+plan_windows-requires g c =
     let k : ℕ = c.args.first in
     let pairs : List Pair = c.args.pairs.now in
     let records = c.args.records.now in
     let ws : List Window = map g.R.Record.span records in
-    let ok : checked c.args.first pairs ws (length pairs) ≡ Ok tt = sym c.in-ok-check.ensures in
-    let spans = front_spans ws (replicate 512 (bare (0, 0))) c.windows-of-windows.result (length records) (length-map records g.R.Record.span) c.windows-of-windows.ensures in
+    let ok : checked c.args.first pairs ws (length pairs) ≡ Ok tt = sym c.in_ok-check.ensures in
+    let spans = front_spans ws (replicate 512 (bare (0, 0))) c.windows_of-windows.result (length records) (length-map records g.R.Record.span) c.windows_of-windows.ensures in
     ap (λ vs. checked k pairs vs (length pairs)) spans ∙ ok
 
 pub returns : goal.returns
@@ -57,10 +57,10 @@ returns g c =
     let pairs : List Pair = c.args.pairs.now in
     let records = c.args.records.now in
     let ws : List Window = map g.R.Record.span records in
-    let ok : checked c.args.first pairs ws (length pairs) ≡ Ok tt = sym c.in-ok-check.ensures in
-    let spans = front_spans ws (replicate 512 (bare (0, 0))) c.windows-of-windows.result (length records) (length-map records g.R.Record.span) c.windows-of-windows.ensures in
-    let told : ◌≡◌ {A = Planned} (Ok c.plan-windows.result) (planned_of k pairs ws) =
-    ap (λ plan. Ok plan) (c.plan-windows.ensures ∙ ap (λ vs. option_map padded (first_plan k pairs vs)) spans)
+    let ok : checked c.args.first pairs ws (length pairs) ≡ Ok tt = sym c.in_ok-check.ensures in
+    let spans = front_spans ws (replicate 512 (bare (0, 0))) c.windows_of-windows.result (length records) (length-map records g.R.Record.span) c.windows_of-windows.ensures in
+    let told : ◌≡◌ {A = Planned} (Ok c.plan_windows.result) (planned_of k pairs ws) =
+    ap (λ plan. Ok plan) (c.plan_windows.ensures ∙ ap (λ vs. option_map padded (first_plan k pairs vs)) spans)
     ∙ ap (λ o. past_checks o (first_plan k pairs ws)) (sym ok) in
     let P : Planned → Type 0 = PlannedMeans k pairs ws in
     record { answer = told; means = subst P (sym told) (planned_means k pairs ws) }
