@@ -1,5 +1,5 @@
 -- The three lines of a header, one after the other.
-use Rattle.std.proofs.Common.{◌≡◌, ℕ, List, [], ◌∷◌, drop, IfOk, Some, None, Ok, Err, Option, Result, sym, refl, ap, ◌∙◌, arith}
+use Rattle.std.proofs.Common.{◌≡◌, ℕ, List, [], ◌∷◌, drop, IfOk, Some, Ok, Err, Option, Result, sym, refl, ap, ◌∙◌, arith}
 use Rattle.calendar.specs.declared.week.Weekly.{Weekly}
 use Rattle.calendar.specs.declared.layer.Closing.{Closing}
 use Rattle.calendar.specs.Told.{week_of, runs_of, below_of}

@@ -2,7 +2,6 @@
 use Rattle.std.specs.Prelude.{ℕ, Some, None, Option}
 use Rattle.calendar.specs.Faults as calendars
 use Rattle.reading.specs.declared.words.Unfit.{Unfit}
-use Rattle.reading.specs.declared.words.Unfit.TheVariants as Unfit
 use Rattle.sheet.specs.declared.fault.SheetFault.{SheetFault}
 use Rattle.sheet.specs.declared.fault.SheetFault.TheVariants.{TooLong, NoMark, BadLine, BadField, Missing, Calendar}
 use Rattle.sheet.specs.declared.fault.Refusal.{Refusal}
