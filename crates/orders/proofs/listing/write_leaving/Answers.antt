@@ -19,7 +19,7 @@ loop-i-preserved c =
     let j : i < length ts = omega arith in
     elim c.if-days-i.branch [
       | then-days-i w ↦
-          rw (w.count-is, w.list-is) (written_more t os ts old i h j c.loop-i.count c.loop-i.list c.requires.1 c.loop-i.invariant w.if-days-i.true)
+          rw (w.count-is, w.list-is) (written_more t os ts old i h j c.loop-i.count c.loop-i.list c.requires.orders_in_bounds c.loop-i.invariant w.if-days-i.true)
       | else-days-i w ↦ rw (w.count-is, w.list-is) (written_same t os ts old i h j c.loop-i.count c.loop-i.list c.loop-i.invariant w.if-days-i.false)
     ]
 

@@ -9,8 +9,8 @@ use Rattle.orders.proofs.Turns.{front_changed}
 use Rattle.orders.proofs.Tables.{found_within}
 use Rattle.orders.proofs.table.Table.change.Goals as goal
 
-pub offset-bounds-self-place : goal.offset-bounds-self-place
-offset-bounds-self-place c = omega (arith, found_within c.args.self.now c.args.number c.in-Some.place c.in-Some.ensures)
+pub offset_bounds-self-place : goal.offset_bounds-self-place
+offset_bounds-self-place c = omega (arith, found_within c.args.self.now c.args.number c.in-Some.place c.in-Some.ensures)
 
 pub bounds-self-place : goal.bounds-self-place
 bounds-self-place c = omega (arith, found_within c.args.self.now c.args.number c.in-Some.place c.in-Some.ensures)
@@ -28,7 +28,7 @@ returns-in-Some c =
       told = ap (map told_span) front ∙ told_reasked w os i unused;
     }
 
-pub returns-in-default : goal.returns-in-default
-returns-in-default c =
+pub returns-in_default : goal.returns-in_default
+returns-in_default c =
     let t = c.args.self.now in
-    record { held = rewindow_none c.args.number (span_of c.args.asked) (held_in t) (missing c.args.number (held_in t) c.in-default.ensures); told = refl }
+    record { held = rewindow_none c.args.number (span_of c.args.asked) (held_in t) (missing c.args.number (held_in t) c.in_default.ensures); told = refl }

@@ -12,29 +12,29 @@ use Rattle.orders.proofs.Turns.{turned_in}
 use Rattle.orders.proofs.Tables.{long}
 use Rattle.orders.proofs.table.Table.enter.Goals as goal
 
-pub returns-then-count-eq-MOST-RECORDS : goal.returns-then-count-eq-MOST-RECORDS
-returns-then-count-eq-MOST-RECORDS c = record { answer = sym (le-ltb _ 512 (omega (arith, long c.args.self.now))); held = refl; told = refl }
+pub returns-then-count-eq-MOST_RECORDS : goal.returns-then-count-eq-MOST_RECORDS
+returns-then-count-eq-MOST_RECORDS c = record { answer = sym (le-ltb _ 512 (omega (arith, long c.args.self.now))); held = refl; told = refl }
 
-pub invariant-of-self : goal.invariant-of-self
-invariant-of-self c =
+pub invariant_of-self : goal.invariant_of-self
+invariant_of-self c =
     let t = c.args.self.now in
-    let at : ℕ = c.place-for-place.result in
+    let at : ℕ = c.place_for-place.result in
     let o : Order = new_order c.args.number c.args.asked in
     let lz : length (set t.orders t.len o) ≡ length t.orders = length-set t.orders t.len o in
-    (same_len_mid at (t.len + 1 - at) (set t.orders t.len o) c.rotate-right.new.self c.rotate-right.ensures.len ∙ lz ∙ t.full, (omega arith, tt))
+    record { full = same_len_mid at (t.len + 1 - at) (set t.orders t.len o) c.rotate_right.new.self c.rotate_right.ensures.len ∙ lz ∙ t.full; few = omega arith }
 
 pub returns : goal.returns
 returns c =
     let t = c.args.self.now in
     let n : ℕ = t.len in
-    let at : ℕ = c.place-for-place.result in
+    let at : ℕ = c.place_for-place.result in
     let o : Order = new_order c.args.number c.args.asked in
     let os : List Order = take n t.orders in
     let room : n < length t.orders = omega arith in
-    let within : at ≤ n = omega (arith, ap length c.as-slice.ensures, length-take-le n t.orders (omega arith)) in
-    let place : at ≡ entry_place c.args.number (held_in t) = c.place-for-place.ensures.place ∙ ap (λ l. entry_place c.args.number (map entry_of l)) c.as-slice.ensures in
-    let e : take (n + 1) (put_mid at (n + 1 - at) (set t.orders n o) c.rotate-right.new.self) ≡ insert os (entry_place c.args.number (held_in t)) o =
-    turned_in t.orders c.rotate-right.new.self at n o within room c.rotate-right.ensures.after ∙ ap (λ k. insert os k o) place in
+    let within : at ≤ n = omega (arith, ap length c.as_slice.ensures, length-take-le n t.orders (omega arith)) in
+    let place : at ≡ entry_place c.args.number (held_in t) = c.place_for-place.ensures.place ∙ ap (λ l. entry_place c.args.number (map entry_of l)) c.as_slice.ensures in
+    let e : take (n + 1) (put_mid at (n + 1 - at) (set t.orders n o) c.rotate_right.new.self) ≡ insert os (entry_place c.args.number (held_in t)) o =
+    turned_in t.orders c.rotate_right.new.self at n o within room c.rotate_right.ensures.after ∙ ap (λ k. insert os k o) place in
     record {
       answer = sym (lt-ltb _ 512 (omega (arith, long t)));
       held = ap (map entry_of) e ∙ enter_map o os;

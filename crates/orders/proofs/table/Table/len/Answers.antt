@@ -5,4 +5,4 @@ use Rattle.orders.specs.Tables.{listed}
 use Rattle.orders.proofs.table.Table.len.Goals as goal
 
 pub returns : goal.returns
-returns c = ap length c.as-slice.ensures ∙ sym (length-map (listed c.args.self.now) entry_of)
+returns c = ap length c.as_slice.ensures ∙ sym (length-map (listed c.args.self.now) entry_of)

@@ -16,13 +16,13 @@ returns-then-list-count c =
     let short : room_for c.args.self.now c.args.list.now ≡ false = lt-leb _ (length c.args.list.now) (omega (arith, long c.args.self.now)) in
     record { answer = sym (cond-false _ _ _ short); list = refl; held = refl; told = refl }
 
-pub invariant-of-self : goal.invariant-of-self
-invariant-of-self c =
+pub invariant_of-self : goal.invariant_of-self
+invariant_of-self c =
     let t = c.args.self.now in
-    let bound = c.keep-staying-self.ensures.bound in (
-      lent_long t.orders c.keep-staying-self.new.orders t.len (omega arith) c.keep-staying-self.auto.orders ∙ t.full,
-      (omega (arith, bound, length-take-le (t.len - 0) t.orders (omega arith)), tt),
-    )
+    let bound = c.keep_staying-self.ensures.bound in record {
+      full = lent_long t.orders c.keep_staying-self.new.orders t.len (omega arith) c.keep_staying-self.auto.orders ∙ t.full;
+      few = omega (arith, bound, length-take-le (t.len - 0) t.orders (omega arith));
+    }
 
 pub returns : goal.returns
 returns c =
@@ -31,17 +31,17 @@ returns c =
     let days : List ℕ = c.args.days.now in
     let list : List ℕ = c.args.list.now in
     let os : List Order = take t.len t.orders in
-    let ys : List Order = c.keep-staying-self.new.orders in
-    let n : ℕ = c.keep-staying-self.result in
+    let ys : List Order = c.keep_staying-self.new.orders in
+    let n : ℕ = c.keep_staying-self.result in
     let room : room_for t list ≡ true = le-leb _ (length list) (omega (arith, long t)) in
     let ts : take (t.len - 0) days ≡ days_of t days = front_lent days t.len ∙ ap (λ m. take m days) (sym (long t)) in
-    let gone = ap₂ (λ l us. leaving today (map entry_of l) us) c.as-slice.ensures ts in
-    let few : n ≤ t.len = omega (arith, c.keep-staying-self.ensures.bound, length-take-le (t.len - 0) t.orders (omega arith)) in
+    let gone = ap₂ (λ l us. leaving today (map entry_of l) us) c.as_slice.ensures ts in
+    let few : n ≤ t.len = omega (arith, c.keep_staying-self.ensures.bound, length-take-le (t.len - 0) t.orders (omega arith)) in
     let kept : take n (ys ++ drop (t.len - 0) t.orders) ≡ off today os (days_of t days) =
-    lent_front t.orders ys t.len (omega arith) c.keep-staying-self.auto.orders n few ∙ c.keep-staying-self.ensures.front ∙ ap₂ (off today) (front_lent t.orders t.len) ts in
+    lent_front t.orders ys t.len (omega arith) c.keep_staying-self.auto.orders n few ∙ c.keep_staying-self.ensures.front ∙ ap₂ (off today) (front_lent t.orders t.len) ts in
     record {
-      answer = ap Some (c.write-leaving-out.ensures.many ∙ ap length gone) ∙ sym (cond-true _ _ _ room);
-      list = c.write-leaving-out.ensures.list ∙ ap (λ l. onto l list) gone;
+      answer = ap Some (c.write_leaving-out.ensures.many ∙ ap length gone) ∙ sym (cond-true _ _ _ room);
+      list = c.write_leaving-out.ensures.list ∙ ap (λ l. onto l list) gone;
       held = ap (map entry_of) kept ∙ off_map entry_of today os (days_of t days) ∙ off_staying today (map entry_of os) (days_of t days);
       told = ap (map told_span) kept ∙ off_map told_span today os (days_of t days);
     }

@@ -9,8 +9,8 @@ use Rattle.orders.proofs.Places.{unused}
 use Rattle.orders.proofs.Tables.{found_within}
 use Rattle.orders.proofs.table.Table.told.Goals as goal
 
-pub offset-bounds-self-place : goal.offset-bounds-self-place
-offset-bounds-self-place c = omega (arith, found_within c.args.self.now c.args.number c.in-Some.place c.in-Some.ensures)
+pub offset_bounds-self-place : goal.offset_bounds-self-place
+offset_bounds-self-place c = omega (arith, found_within c.args.self.now c.args.number c.in-Some.place c.in-Some.ensures)
 
 pub bounds-self-place : goal.bounds-self-place
 bounds-self-place c = omega (arith, found_within c.args.self.now c.args.number c.in-Some.place c.in-Some.ensures)
