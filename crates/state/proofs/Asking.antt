@@ -1,5 +1,5 @@
 -- From the checks and the weighing to the answer of a call that takes no marks.
-use Rattle.std.proofs.Common.{◌≡◌, ℕ, ◌+◌, ◌<◌, ◌≤◌, Bool, true, false, cond, ltb, leb, List, [], ◌∷◌, map, length, Some, None, Ok, Err, Option, Result, sym, refl, ap, ◌∙◌, subst, arith}
+use Rattle.std.proofs.Common.{◌≡◌, ℕ, ◌+◌, ◌<◌, ◌≤◌, Bool, true, false, cond, ltb, leb, List, [], ◌∷◌, length, Some, None, Ok, Err, Option, Result, sym, refl, ap, ◌∙◌, subst, arith}
 use Rattle.std.proofs.lemmas.List.{length-map}
 use Rattle.std.proofs.lemmas.Bool.{both_ways, or_parts, leb-false, ltb-false, le-leb, lt-ltb}
 use Rattle.std.specs.Option.{option_map}
@@ -14,8 +14,8 @@ use Rattle.narrowing.specs.Verdict.{told as heard}
 use Rattle.orders.specs.Lists.{place_in}
 use Rattle.ledger.specs.Orders.{Order, holds, place}
 use Rattle.ledger.specs.Ledger.{Calendar, Ledger, begun_at, pairs, windows, weigh, days_of, may_have}
-use Rattle.ledger.specs.Calls.{Call, Call.douse, Call.window, Call.probe, edits, subject, with_light, bad_day, checks, first_fault}
-use Rattle.ledger.specs.Replies.{Reply, Reply.done, Reply.days, Reply.refused, told, weighed, settled, reply, ledger_after}
+use Rattle.ledger.specs.Calls.{Call, Call.douse, edits, subject, with_light, bad_day, checks, first_fault}
+use Rattle.ledger.specs.Replies.{Reply, Reply.done, Reply.days, told, weighed, settled, reply, ledger_after}
 use Rattle.ledger.specs.Law.{Passes}
 use Rattle.ledger.proofs.Days.{map_from_at, pairs_long}
 use Rattle.orders.proofs.Edits.{found as at_place}

@@ -1,10 +1,9 @@
 -- The first plan of a ledger that has one.
-use Rattle.std.proofs.Common.{◌≡◌, ℕ, ◌-◌, ◌≤◌, true, ◌↔◌, List, [], ◌++◌, length, take, replicate, Some, None, Ok, Err, Option, Result, sym, refl, ap, ◌∙◌, subst, arith}
+use Rattle.std.proofs.Common.{◌≡◌, ℕ, ◌-◌, List, [], length, take, replicate, Some, None, Ok, Err, Option, sym, refl, ap, ◌∙◌, subst, arith}
 use Rattle.std.proofs.lemmas.List.{length-map, take_at}
 use Rattle.std.specs.Option.{option_map}
-use Rattle.plans.specs.Plans.{Pair, Plan}
-use Rattle.plans.specs.Needs.{Within}
-use Rattle.plans.specs.Narrowing.{first_plan, Leads}
+use Rattle.plans.specs.Plans.{Pair}
+use Rattle.plans.specs.Narrowing.{first_plan}
 use Rattle.plans.specs.Replies.{Reply as Weight, Reply.accepted, Reply.overfull, Reply.short}
 use Rattle.plans.proofs.Replies.{reply_means}
 use Rattle.plans.proofs.First.{first_leads}

@@ -1,15 +1,15 @@
 -- From the checks and the weighing to the answer of an edit.
 use Rattle.std.proofs.Common.{◌≡◌, ℕ, ◌<◌, ◌≤◌, Bool, true, false, cond, ltb, List, [], ◌++◌, length, take, drop, Some, None, Ok, Err, Option, Result, sym, refl, ap, ◌∙◌, subst, arith}
 use Rattle.std.proofs.lemmas.List.{length-take-le, take_at, take-append-drop}
-use Rattle.plans.specs.Plans.{Window, Pair, from}
+use Rattle.plans.specs.Plans.{Window}
 use Rattle.plans.specs.Sets.{Marks, run_marks, ShowsShortage}
 use Rattle.plans.specs.Replies.{Reply as Weight, Reply.accepted, Reply.overfull, Reply.short}
 use Rattle.narrowing.specs.Verdict.{Marked}
 use Rattle.std.proofs.lemmas.Bool.{lt-ltb}
 use Rattle.ledger.specs.Orders.{Order, enter}
-use Rattle.ledger.specs.Ledger.{Calendar, Ledger, horizon, pair_on, pairs, windows, weigh}
+use Rattle.ledger.specs.Ledger.{Calendar, Ledger, pairs, windows, weigh}
 use Rattle.ledger.specs.Calls.{Edit, Edit.admit, Edit.change, Edit.withdraw, Edit.light, Call, Call.edit, edits, edit_subject, subject, edited, made, checks, first_fault}
-use Rattle.ledger.specs.Replies.{Reply, Reply.done, Reply.refused, Reply.lacks, told, weighed, settled, past_weighing, past_checks, reply, number_of, refuses, Allowed, onto, marks_after, ledger_after}
+use Rattle.ledger.specs.Replies.{Reply, Reply.done, Reply.refused, Reply.lacks, told, weighed, settled, past_weighing, past_checks, reply, number_of, refuses, onto, marks_after, ledger_after}
 use Rattle.faults.specs.Faults.{check_number}
 use Rattle.state.specs.Answers.{failed, edit_reply, horizon_marks, Edits}
 use Rattle.state.specs.Weights.{checked_about, fault_about, answer_of, ledger_by, Settles}

@@ -1,9 +1,9 @@
 -- Whether there is a plan does not depend on marks.
-use Rattle.std.proofs.Common.{◌≡◌, ℕ, Bool, true, false, cond, List, [], ◌∷◌, Some, None, Option, refl}
+use Rattle.std.proofs.Common.{ℕ, Bool, true, false, cond, List, Some, None, Option}
 use Rattle.plans.specs.Plans.{Window, Pair, mosts_kept, plans}
 use Rattle.plans.specs.Runs.{overfull_run}
 use Rattle.plans.specs.Sets.{meeting, needed}
-use Rattle.plans.specs.Replies.{Reply as Weight, Reply.accepted, Reply.overfull, Reply.short, none, tell_overfull, reply}
+use Rattle.plans.specs.Replies.{Reply as Weight, Reply.accepted, Reply.overfull, Reply.short, none, tell_overfull}
 use Rattle.ledger.specs.Ledger.{Calendar, Ledger, pairs, windows, weigh}
 
 -- Two replies of one problem: the same but for the counts of 21.

@@ -1,18 +1,18 @@
 -- From the checks, the weighing and the first plan to the answers of plan and turn.
-use Rattle.std.proofs.Common.{◌≡◌, ℕ, suc, ◌+◌, ◌-◌, ◌<◌, ◌≤◌, Bool, true, false, cond, leb, List, [], ◌++◌, length, take, drop, Some, None, Ok, Err, Option, sym, refl, ap, ◌∙◌, subst, ap₂, add-one, arith, length-append, length-drop}
-use Rattle.std.proofs.lemmas.List.{take_at, length-take-le}
+use Rattle.std.proofs.Common.{◌≡◌, ℕ, ◌+◌, ◌≤◌, true, cond, leb, List, [], ◌++◌, length, take, drop, Some, None, Ok, Err, sym, refl, ap, ◌∙◌, ap₂, add-one, arith, length-append}
+use Rattle.std.proofs.lemmas.List.{take_at}
 use Rattle.std.proofs.lemmas.Bool.{le-leb}
 use Rattle.ledger.specs.Orders.{Order, leaving, staying}
 use Rattle.ledger.specs.Ledger.{Calendar, Ledger, weigh, Fits, plan_of}
 use Rattle.ledger.specs.Calls.{Call, Call.plan, Call.turn, turned, made}
-use Rattle.ledger.specs.Replies.{Reply, Reply.planned, Reply.out, reply, refuses, onto, list_after, ledger_after}
+use Rattle.ledger.specs.Replies.{Reply.planned, Reply.out, reply, refuses, onto, list_after, ledger_after}
 use Rattle.ledger.specs.Law.{Passes}
 use Rattle.state.specs.Answers.{plainly, Lists}
 use Rattle.state.specs.Near.{near_all}
 use Rattle.state.specs.Weights.{quiet}
 use Rattle.faults.specs.declared.BookFault.{BookFault}
 use Rattle.state.proofs.Nearness.{near_staying}
-use Rattle.state.proofs.Asking.{ask_refused, ask_told}
+use Rattle.state.proofs.Asking.{ask_told}
 
 -- A refusal writes nothing and alters nothing.
 pub lists_refused : (c : Calendar) (L : Ledger) (k : Call) (fault : BookFault) (ns : List ℕ) → plainly fault ≡ reply c L k []

@@ -1,5 +1,5 @@
 -- What a weighing makes of a call: the answer, and the ledger.
-use Rattle.std.specs.Prelude.{◌≡◌, ℕ, List, [], length, take, Some, None, Ok, Err, Option, Result}
+use Rattle.std.specs.Prelude.{◌≡◌, ℕ, List, length, take, Some, None, Ok, Err, Option, Result}
 use Rattle.plans.specs.Narrowing.{narrowed}
 use Rattle.plans.specs.Replies.{Reply as Weight, Reply.accepted, Reply.overfull, Reply.short}
 use Rattle.records.specs.declared.fault.NarrowingFault.TheVariants.{Overfull, Short}

@@ -7,21 +7,21 @@ use Rattle.state.proofs.Passing.{change_passed}
 use Rattle.state.proofs.Settling.{no_fault, edits_to}
 use Rattle.state.proofs.state.State.change.Goals as goal
 
-pub with-table-next-requires : goal.with-table-next-requires
-with-table-next-requires g c =
+pub with_table-next-requires : goal.with_table-next-requires
+with_table-next-requires g c =
     let s = c.args.self.now in
     let n = c.args.number in
     let f = c.args.asked.first in
     let l = c.args.asked.last in
     let m = length c.args.marks.now in
-    let none = no_fault n c.check-change.result (first_fault (checks (ledger_of s) (edit (change n f l) m))) c.check-change.ensures
-    (sym c.about.ensures ∙ c.in-ok-about.was) in
+    let none = no_fault n c.check_change.result (first_fault (checks (ledger_of s) (edit (change n f l) m))) c.check_change.ensures
+    (sym c.about.ensures ∙ c.in_ok-about.was) in
     ap (near_all s.today) c.change.ensures.held ∙ near_rewindow s.today n (f, l) (ledger_of s).held (change_passed (ledger_of s) n f l m none) s.near
 
 pub returns : goal.returns
 returns g c =
     let s = c.args.self.now in
     let t = edits_to (g.C.Calendar.told c.args.calendar.now) (ledger_of s) (change c.args.number c.args.asked.first c.args.asked.last) _ _
-    c.check-change.result c.check-change.ensures (sym c.about.ensures ∙ c.in-ok-about.was) c.settle.auto.marks _ _ c.settle.result
-    (c.with-table-next.ensures ∙ ap (λ os. with_held os (ledger_of s)) c.change.ensures.held) c.settle.ensures in
+    c.check_change.result c.check_change.ensures (sym c.about.ensures ∙ c.in_ok-about.was) c.settle.auto.marks _ _ c.settle.result
+    (c.with_table-next.ensures ∙ ap (λ os. with_held os (ledger_of s)) c.change.ensures.held) c.settle.ensures in
     record { told = t.0; ledger = t.1 }

@@ -1,7 +1,7 @@
 use Rattle.std.proofs.Common.{◌≡◌, ℕ, ◌-◌, ◌≤◌, List, ◌++◌, length, take, drop, sym, refl, ap, ◌∙◌, ap₂, arith, rules}
 use Rattle.std.proofs.lemmas.Result.{err_from_is_err_and}
 use Rattle.orders.proofs.Tables.{long}
-use Rattle.ledger.specs.Ledger.{Calendar, Ledger, pairs, windows, plan_of}
+use Rattle.ledger.specs.Ledger.{plan_of}
 use Rattle.ledger.specs.Calls.{Call.plan, checks, first_fault}
 use Rattle.ledger.specs.Law.{Passes}
 use Rattle.state.specs.Model.{ledger_of}
@@ -12,28 +12,28 @@ use Rattle.state.proofs.Planning.{fits_long}
 use Rattle.state.proofs.Writing.{lists_refused, plan_lists}
 use Rattle.state.proofs.state.State.plan.Goals as goal
 
-pub returns-in-err-days : goal.returns-in-err-days
-returns-in-err-days g c =
+pub returns-in_err-days : goal.returns-in_err-days
+returns-in_err-days g c =
     let C = g.C.Calendar.told c.args.calendar.now in
     let L = ledger_of c.args.self.now in
     let ns = c.args.list.now in
-    let pass : Passes L (plan (length ns)) = no_fault L.today c.check-plan.result (first_fault (checks L (plan (length ns)))) c.check-plan.ensures
-    (sym c.about.ensures ∙ c.in-ok-about.was) in
-    let p = err_from_is_err_and c.from-residual-in-err-days.result c.from-residual-in-err-days.ensures.1 in
+    let pass : Passes L (plan (length ns)) = no_fault L.today c.check_plan.result (first_fault (checks L (plan (length ns)))) c.check_plan.ensures
+    (sym c.about.ensures ∙ c.in_ok-about.was) in
+    let p = err_from_is_err_and c.from_residual-in_err-days.result c.from_residual-in_err-days.ensures.1 in
     rw (p.1, p.2)
-    (lists_refused C L (plan (length ns)) c.in-err-days.field-0.0 ns (ask_refused C L (plan (length ns)) refl pass refl c.in-err-days.field-0.0 c.in-err-days.ensures.refusal)).0
+    (lists_refused C L (plan (length ns)) c.in_err-days.field-0.0 ns (ask_refused C L (plan (length ns)) refl pass refl c.in_err-days.field-0.0 c.in_err-days.ensures.refusal)).0
 
-pub slice-bounds-copy-from-slice-end : goal.slice-bounds-copy-from-slice-end
-slice-bounds-copy-from-slice-end g c =
+pub slice_bounds-copy_from_slice-end : goal.slice_bounds-copy_from_slice-end
+slice_bounds-copy_from_slice-end g c =
     let L = ledger_of c.args.self.now in
     let ns = c.args.list.now in
-    let pass : Passes L (plan (length ns)) = no_fault L.today c.check-plan.result (first_fault (checks L (plan (length ns)))) c.check-plan.ensures
-    (sym c.about.ensures ∙ c.in-ok-about.was) in
+    let pass : Passes L (plan (length ns)) = no_fault L.today c.check_plan.result (first_fault (checks L (plan (length ns)))) c.check_plan.ensures
+    (sym c.about.ensures ∙ c.in_ok-about.was) in
     let h : c.len-held.result ≤ length ns = omega (arith, plan_room L (length ns) pass, c.len-held.ensures) in
     search rules
 
-pub slice-bounds-copy-from-slice-end-2 : goal.slice-bounds-copy-from-slice-end-2
-slice-bounds-copy-from-slice-end-2 g c =
+pub slice_bounds-copy_from_slice-end-2 : goal.slice_bounds-copy_from_slice-end-2
+slice_bounds-copy_from_slice-end-2 g c =
     let s = c.args.self.now in
     let h : c.len-held.result ≤ 512 = omega (arith, long s.table, s.table.few, c.len-held.ensures) in
     search rules
@@ -45,10 +45,10 @@ returns g c =
     let L = ledger_of s in
     let ns = c.args.list.now in
     let n = c.len-held.result in
-    let pass : Passes L (plan (length ns)) = no_fault L.today c.check-plan.result (first_fault (checks L (plan (length ns)))) c.check-plan.ensures
-    (sym c.about.ensures ∙ c.in-ok-about.was) in
-    let D = c.in-ok-days.ensures in
+    let pass : Passes L (plan (length ns)) = no_fault L.today c.check_plan.result (first_fault (checks L (plan (length ns)))) c.check_plan.ensures
+    (sym c.about.ensures ∙ c.in_ok-about.was) in
+    let D = c.in_ok-days.ensures in
     let z : n - 0 ≡ n = omega arith in
-    let t : take n c.in-ok-days.days ≡ plan_of C L = ap (λ m. take m c.in-ok-days.days) c.len-held.ensures ∙ D.planned.0 in
+    let t : take n c.in_ok-days.days ≡ plan_of C L = ap (λ m. take m c.in_ok-days.days) c.len-held.ensures ∙ D.planned.0 in
     plan_lists C L ns _ n (c.len-held.ensures ∙ sym (fits_long C L (plan_of C L) D.planned.1)) (ask_told C L (plan (length ns)) refl pass refl D.refusal)
-    (ap₂ (λ (xs : List ℕ) (k : ℕ). xs ++ drop k ns) (c.copy-from-slice.ensures.after ∙ ap (λ m. take m c.in-ok-days.days) z ∙ t) z)
+    (ap₂ (λ (xs : List ℕ) (k : ℕ). xs ++ drop k ns) (c.copy_from_slice.ensures.after ∙ ap (λ m. take m c.in_ok-days.days) z ∙ t) z)

@@ -1,9 +1,8 @@
-use Rattle.std.proofs.Common.{◌≡◌, ℕ, Bool, false, Ok, sym, refl, ap, ◌∙◌, arith}
+use Rattle.std.proofs.Common.{◌≡◌, false, Ok, sym, refl, ap, ◌∙◌, arith}
 use Rattle.std.proofs.lemmas.Result.{err_from_is_err_and}
 use Rattle.records.specs.Checks.{checked}
-use Rattle.narrowing.specs.Support.{Support}
 use Rattle.orders.proofs.Tables.{long}
-use Rattle.ledger.specs.Ledger.{Calendar, Ledger, pairs, windows, may_have}
+use Rattle.ledger.specs.Ledger.{pairs, windows, may_have}
 use Rattle.ledger.specs.Calls.{Call.probe, bad_day}
 use Rattle.ledger.specs.Replies.{Reply.says}
 use Rattle.state.specs.Model.{ledger_of}
@@ -11,22 +10,22 @@ use Rattle.state.proofs.Nearness.{passes}
 use Rattle.state.proofs.Asking.{probe_passes, ask_refused, ask_told, supported_told, ok_not_err, ok_same}
 use Rattle.state.proofs.state.State.probe.Goals as goal
 
-pub returns-in-err-weighed : goal.returns-in-err-weighed
-returns-in-err-weighed g c =
+pub returns-in_err-weighed : goal.returns-in_err-weighed
+returns-in_err-weighed g c =
     let C = g.C.Calendar.told c.args.calendar.now in
     let L = ledger_of c.args.self.now in
-    let day : bad_day L c.args.day ≡ false = sym c.is-outside.ensures ∙ c.if-is-outside.false in
-    let p = err_from_is_err_and c.from-residual.result c.from-residual.ensures.1 in
+    let day : bad_day L c.args.day ≡ false = sym c.is_outside.ensures ∙ c.if-is_outside.false in
+    let p = err_from_is_err_and c.from_residual.result c.from_residual.ensures.1 in
     rw (p.1, p.2)
     (ask_refused C L (probe c.args.number c.args.day) refl (probe_passes L c.args.number c.in-Some.place c.args.day c.in-Some.ensures day) refl
-    c.in-err-weighed.field-0.0 c.in-err-weighed.ensures.refusal)
+    c.in_err-weighed.field-0.0 c.in_err-weighed.ensures.refusal)
 
 pub unreachable-requires : goal.unreachable-requires
 unreachable-requires g c =
     let s = c.args.self.now in
     let C = g.C.Calendar.told c.args.calendar.now in
     let L = ledger_of s in
-    let day : bad_day L c.args.day ≡ false = sym c.is-outside.ensures ∙ c.if-is-outside.false in
+    let day : bad_day L c.args.day ≡ false = sym c.is_outside.ensures ∙ c.if-is_outside.false in
     let pass : checked L.today (pairs C L) (windows L) 56 ≡ Ok tt =
     passes C L 56 (g.C.Calendar.sound c.args.calendar.now) s.early s.near (omega (arith, long s.table, s.table.few)) (omega arith) in
     let e = supported_told C L c.args.number c.in-Some.place c.args.day c.in-Some.ensures day (omega (arith, long s.table, s.table.few)) pass
@@ -38,7 +37,7 @@ returns g c =
     let s = c.args.self.now in
     let C = g.C.Calendar.told c.args.calendar.now in
     let L = ledger_of s in
-    let day : bad_day L c.args.day ≡ false = sym c.is-outside.ensures ∙ c.if-is-outside.false in
+    let day : bad_day L c.args.day ≡ false = sym c.is_outside.ensures ∙ c.if-is_outside.false in
     let pass : checked L.today (pairs C L) (windows L) 56 ≡ Ok tt =
     passes C L 56 (g.C.Calendar.sound c.args.calendar.now) s.early s.near (omega (arith, long s.table, s.table.few)) (omega arith) in
     let e = supported_told C L c.args.number c.in-Some.place c.args.day c.in-Some.ensures day (omega (arith, long s.table, s.table.few)) pass
@@ -46,4 +45,4 @@ returns g c =
     let y : c.in-Ok.yes ≡ may_have C L c.args.number c.args.day = ok_same c.supports.result (may_have C L c.args.number c.args.day) c.in-Ok.yes e c.in-Ok.is in
     ap says y
     ∙ ask_told C L (probe c.args.number c.args.day) refl (probe_passes L c.args.number c.in-Some.place c.args.day c.in-Some.ensures day) refl
-    c.in-ok-weighed.ensures.refusal
+    c.in_ok-weighed.ensures.refusal

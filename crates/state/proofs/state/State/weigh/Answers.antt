@@ -1,8 +1,7 @@
-use Rattle.std.proofs.Common.{◌≡◌, ℕ, Bool, List, length, Ok, refl, ap, ◌∙◌, arith}
+use Rattle.std.proofs.Common.{◌≡◌, ℕ, List, length, Ok, ap, ◌∙◌, arith}
 use Rattle.records.specs.Checks.{checked}
 use Rattle.ledger.specs.Orders.{Order}
 use Rattle.ledger.specs.Ledger.{Calendar, Ledger, pairs, windows}
-use Rattle.orders.specs.Tables.{held_in}
 use Rattle.orders.proofs.Tables.{long}
 use Rattle.state.specs.Near.{near_all}
 use Rattle.state.specs.Model.{lit_by, ledger_of}
@@ -10,10 +9,10 @@ use Rattle.state.proofs.Nearness.{passes}
 use Rattle.state.proofs.Judging.{weigh_answer, weigh_marks, weigh_told}
 use Rattle.state.proofs.state.State.weigh.Goals as goal
 
-pub invariant-of-self : goal.invariant-of-self
-invariant-of-self g c =
+pub invariant_of-self : goal.invariant_of-self
+invariant_of-self g c =
     let s = c.args.self.now in
-    (s.early, (s.slots, (ap (near_all s.today) c.narrow.ensures.held ∙ s.near, tt)))
+    record { early = s.early; slots = s.slots; near = ap (near_all s.today) c.narrow.ensures.held ∙ s.near }
 
 pub returns : goal.returns
 returns g c =

@@ -1,4 +1,4 @@
-use Rattle.std.proofs.Common.{◌≡◌, ap, ◌∙◌}
+use Rattle.std.proofs.Common.{ap, ◌∙◌}
 use Rattle.ledger.specs.Ledger.{Ledger, weigh}
 use Rattle.state.specs.Answers.{horizon_marks}
 use Rattle.state.specs.Model.{ledger_of}

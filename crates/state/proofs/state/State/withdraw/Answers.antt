@@ -6,15 +6,15 @@ use Rattle.state.proofs.Nearness.{near_without}
 use Rattle.state.proofs.Settling.{edits_to}
 use Rattle.state.proofs.state.State.withdraw.Goals as goal
 
-pub with-table-next-requires : goal.with-table-next-requires
-with-table-next-requires g c =
+pub with_table-next-requires : goal.with_table-next-requires
+with_table-next-requires g c =
     let s = c.args.self.now in
     ap (near_all s.today) c.remove.ensures.held ∙ near_without s.today c.args.number (ledger_of s).held s.near
 
 pub returns : goal.returns
 returns g c =
     let s = c.args.self.now in
-    let t = edits_to (g.C.Calendar.told c.args.calendar.now) (ledger_of s) (withdraw c.args.number) _ _ c.check-withdraw.result
-    c.check-withdraw.ensures (sym c.about.ensures ∙ c.in-ok-about.was) c.settle.auto.marks _ _ c.settle.result
-    (c.with-table-next.ensures ∙ ap (λ os. with_held os (ledger_of s)) c.remove.ensures.held) c.settle.ensures in
+    let t = edits_to (g.C.Calendar.told c.args.calendar.now) (ledger_of s) (withdraw c.args.number) _ _ c.check_withdraw.result
+    c.check_withdraw.ensures (sym c.about.ensures ∙ c.in_ok-about.was) c.settle.auto.marks _ _ c.settle.result
+    (c.with_table-next.ensures ∙ ap (λ os. with_held os (ledger_of s)) c.remove.ensures.held) c.settle.ensures in
     record { told = t.0; ledger = t.1 }
