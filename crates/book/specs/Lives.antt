@@ -1,5 +1,5 @@
 -- The life that a book or a trial is.
-use Rattle.std.specs.Prelude.{ℕ, Some, None, Option}
+use Rattle.std.specs.Prelude.{Some, Option}
 use Rattle.ledger.specs.Ledger.{Ledger}
 use Rattle.ledger.specs.Lives.{Life}
 use Rattle.state.specs.Model.{ledger_of}
