@@ -2,9 +2,9 @@
 
 // The edges of every check of calendars, headers and the verdict, of the table of orders, and small first plans, as tests.
 #[cfg(test)]
-mod orders;
-#[cfg(test)]
 mod planned;
+#[cfg(test)]
+mod tables;
 #[cfg(test)]
 mod verdicts;
 

@@ -1,6 +1,6 @@
 -- What it says that a call passes its checks.
 use Rattle.std.proofs.Common.{◌≡◌, ℕ, ◌+◌, ◌<◌, ◌≤◌, Bool, true, false, cond, ◌||◌, ltb, leb, List, [], ◌∷◌, length, Some, None, refl, subst, arith}
-use Rattle.std.specs.List.{AllByRecursion as All}
+use Rattle.std.specs.List.{AllByRecursion}
 use Rattle.std.proofs.lemmas.Bool.{eqb-false, leb-false, ltb-false, or_parts, not-false}
 use Rattle.ledger.specs.Orders.{holds}
 use Rattle.ledger.specs.Ledger.{Ledger, horizon}
@@ -8,12 +8,12 @@ use Rattle.ledger.specs.Calls.{Edit.admit, Edit.change, Edit.withdraw, Edit.ligh
 use Rattle.ledger.specs.Law.{Passes}
 
 -- where no fault is found, no check has one
-pub clear : (ks : List (ℕ × Bool)) → first_fault ks ≡ None → All (λ k. k.1 ≡ false) ks
+pub clear : (ks : List (ℕ × Bool)) → first_fault ks ≡ None → AllByRecursion (λ k. k.1 ≡ false) ks
 clear [] h = tt
 clear (k ∷ ks) h = go k.1 h (clear ks)
   where
-    go : (b : Bool) → cond b (Some k.0) (first_fault ks) ≡ None → (first_fault ks ≡ None → All (λ k. k.1 ≡ false) ks)
-        → (b ≡ false) × All (λ k. k.1 ≡ false) ks
+    go : (b : Bool) → cond b (Some k.0) (first_fault ks) ≡ None → (first_fault ks ≡ None → AllByRecursion (λ k. k.1 ≡ false) ks)
+        → (b ≡ false) × AllByRecursion (λ k. k.1 ≡ false) ks
     go true e f = let z : ◌≡◌ {A = ℕ} 0 1 = cc in absurd (omega arith)
     go false e f = (refl, f e)
 
@@ -67,7 +67,7 @@ module _ (L : Ledger) where
   turn_checks m h = eqb-false L.today last_today (clear (checks L (turn m)) h).1.0
 
 -- the checks of a book have numbers from 30 on
-fault_of : (P : ℕ → Type 0) (ks : List (ℕ × Bool)) → All (λ k. P k.0) ks → (n : ℕ) → first_fault ks ≡ Some n → P n
+fault_of : (P : ℕ → Type 0) (ks : List (ℕ × Bool)) → AllByRecursion (λ k. P k.0) ks → (n : ℕ) → first_fault ks ≡ Some n → P n
 fault_of P [] a n h = let z : ◌≡◌ {A = ℕ} 0 1 = cc in absurd (omega arith)
 fault_of P (k ∷ ks) a n h = go k.1 h (fault_of P ks a.1 n)
   where
@@ -78,7 +78,7 @@ fault_of P (k ∷ ks) a n h = go k.1 h (fault_of P ks a.1 n)
 pub late_fault : (L : Ledger) (k : Call) (n : ℕ) → first_fault (checks L k) ≡ Some n → 30 ≤ n
 late_fault L k n h = fault_of (λ m. 30 ≤ m) (checks L k) (late k) n h
   where
-    late : (k : Call) → All (λ k. 30 ≤ k.0) (checks L k)
+    late : (k : Call) → AllByRecursion (λ k. 30 ≤ k.0) (checks L k)
     late (edit (admit n f l) m) = (omega arith, (omega arith, (omega arith, (omega arith, (omega arith, tt)))))
     late (edit (change n f l) m) = (omega arith, (omega arith, (omega arith, tt)))
     late (edit (withdraw n) m) = (omega arith, (omega arith, tt))

@@ -1,6 +1,6 @@
 -- What every ledger keeps: an accepted call leaves it in order, and with a plan.
 use Rattle.std.proofs.Common.{◌≡◌, ℕ, suc, ◌+◌, ◌<◌, ◌≤◌, Bool, true, false, cond, eqb, List, Some, None, Option, refl, subst, arith}
-use Rattle.std.specs.List.{AllByRecursion as All}
+use Rattle.std.specs.List.{AllByRecursion}
 use Rattle.std.proofs.lemmas.Bool.{eqb-true, eqb-false, both_ways}
 use Rattle.std.proofs.ByRecursion.{All-weaker}
 use Rattle.plans.specs.Sets.{run_marks}
@@ -29,7 +29,7 @@ module _ (L : Ledger) (O : Orderly L) where
   abbrev order : ℕ → ℕ → ℕ → Order
   order n f l = record { number = n; asked = (f, l) }
 
-  all_changed : (P : Order → Type 0) (n f l : ℕ) → ((o : Order) → P o → P (order o.number f l)) → All P L.held → All P (rewindow n (f, l) L.held)
+  all_changed : (P : Order → Type 0) (n f l : ℕ) → ((o : Order) → P o → P (order o.number f l)) → AllByRecursion P L.held → AllByRecursion P (rewindow n (f, l) L.held)
   all_changed P n f l g h = all_rewindow P P n (f, l) L.held O.ascending (λ o _. g o) (λ o _ p. p) h
 
   orderly_admit : (n f l : ℕ) → GoodAdmission L n f l → Orderly (edited (admit n f l) L)

@@ -1,6 +1,6 @@
 -- Lists of held orders: what entering, changing, withdrawing and letting out do to them.
 use Rattle.std.proofs.Common.{◌≡◌, ℕ, suc, ◌+◌, ◌<◌, ◌≤◌, true, false, eqb, ltb, List, [], ◌∷◌, ◌++◌, map, length, sym, refl, arith}
-use Rattle.std.specs.List.{AllByRecursion as All}
+use Rattle.std.specs.List.{AllByRecursion}
 use Rattle.std.proofs.lemmas.Bool.{eqb-true, eqb-false, ltb-true, ltb-false, cond_both, or_parts}
 use Rattle.std.proofs.ByRecursion.{All-map, All-weaker}
 use Rattle.plans.specs.Plans.{Window, tick, count, Assignment}
@@ -12,11 +12,11 @@ pub count_append : (n : ℕ) (xs ys : List ℕ) → count n (xs ++ ys) ≡ count
 count_append n [] ys = omega arith
 count_append n (x ∷ xs) ys = omega (arith, count_append n xs ys)
 
-pub all_both : {A : Type 0} (P Q : A → Type 0) (xs : List A) → All P xs → All Q xs → All (λ x. P x × Q x) xs
+pub all_both : {A : Type 0} (P Q : A → Type 0) (xs : List A) → AllByRecursion P xs → AllByRecursion Q xs → AllByRecursion (λ x. P x × Q x) xs
 all_both P Q [] h k = tt
 all_both P Q (x ∷ xs) h k = ((h.0, k.0), all_both P Q xs h.1 k.1)
 
-pub all_unmap : {A B : Type 0} (P : B → Type 0) (f : A → B) (xs : List A) → All P (map f xs) → All (λ x. P (f x)) xs
+pub all_unmap : {A B : Type 0} (P : B → Type 0) (f : A → B) (xs : List A) → AllByRecursion P (map f xs) → AllByRecursion (λ x. P (f x)) xs
 all_unmap P f [] h = tt
 all_unmap P f (x ∷ xs) h = (h.0, all_unmap P f xs h.1)
 
@@ -25,13 +25,13 @@ pub count_none : (n : ℕ) (os : List Order) → holds n os ≡ false → count 
 count_none n [] h = refl
 count_none n (o ∷ os) h = let p = or_parts (eqb n o.number) (holds n os) h in rw p.0 (omega (arith, count_none n os p.1))
 
-pub others : (n : ℕ) (os : List Order) → holds n os ≡ false → All (λ o. o.number ≡ n → ⊥) os
+pub others : (n : ℕ) (os : List Order) → holds n os ≡ false → AllByRecursion (λ o. o.number ≡ n → ⊥) os
 others n [] h = tt
 others n (o ∷ os) h =
     let p = or_parts (eqb n o.number) (holds n os) h in
     ((λ e. eqb-false n o.number p.0 (sym e)), others n os p.1)
 
-none_above : (n m : ℕ) (ns : List ℕ) → n ≤ m → All (λ k. m < k) ns → count n ns ≡ 0
+none_above : (n m : ℕ) (ns : List ℕ) → n ≤ m → AllByRecursion (λ k. m < k) ns → count n ns ≡ 0
 none_above n m [] h a = refl
 none_above n m (k ∷ ns) h a = grind (arith, none_above n m ns h a.1)
 
@@ -48,16 +48,16 @@ pub length_enter : (o : Order) (os : List Order) → length (enter o os) ≡ suc
 length_enter o [] = refl
 length_enter o (p ∷ os) = grind (arith, length_enter o os)
 
-pub all_enter : (P : Order → Type 0) (o : Order) (os : List Order) → P o → All P os → All P (enter o os)
+pub all_enter : (P : Order → Type 0) (o : Order) (os : List Order) → P o → AllByRecursion P os → AllByRecursion P (enter o os)
 all_enter P o [] h k = (h, tt)
 all_enter P o (p ∷ os) h k =
-    cond_both (ltb o.number p.number) (o ∷ (p ∷ os)) (p ∷ enter o os) (All P) (λ _. (h, k)) (λ _. (k.0, all_enter P o os h k.1))
+    cond_both (ltb o.number p.number) (o ∷ (p ∷ os)) (p ∷ enter o os) (AllByRecursion P) (λ _. (h, k)) (λ _. (k.0, all_enter P o os h k.1))
 
 -- all numbers are above k
 abbrev Above : ℕ → List Order → Type 0
-Above k os = All (λ m. k < m) (numbers os)
+Above k os = AllByRecursion (λ m. k < m) (numbers os)
 
-above_by : (f : List Order → List Order) → ((P : Order → Type 0) (os : List Order) → All P os → All P (f os)) → (k : ℕ) (os : List Order) → Above k os → Above k (f os)
+above_by : (f : List Order → List Order) → ((P : Order → Type 0) (os : List Order) → AllByRecursion P os → AllByRecursion P (f os)) → (k : ℕ) (os : List Order) → Above k os → Above k (f os)
 above_by f g k os a = All-map (λ m. k < m) (λ o. o.number) (f os) (g (λ o. k < o.number) os (all_unmap (λ m. k < m) (λ o. o.number) os a))
 
 pub ascends_enter : (o : Order) (os : List Order) → holds o.number os ≡ false → Ascends (numbers os) → Ascends (numbers (enter o os))
@@ -86,10 +86,10 @@ length_rewindow n w (o ∷ os) = grind (arith, length_rewindow n w os)
 
 pub all_rewindow : (P Q : Order → Type 0) (n : ℕ) (w : Window) (os : List Order) → Ascends (numbers os)
     → ((o : Order) → o.number ≡ n → P o → Q (record { number = o.number; asked = w })) → ((o : Order) → (o.number ≡ n → ⊥) → P o → Q o)
-    → All P os → All Q (rewindow n w os)
+    → AllByRecursion P os → AllByRecursion Q (rewindow n w os)
 all_rewindow P Q n w [] a f g h = tt
 all_rewindow P Q n w (o ∷ os) a f g h =
-    cond_both (eqb n o.number) (record { number = o.number; asked = w } ∷ os) (o ∷ rewindow n w os) (All Q)
+    cond_both (eqb n o.number) (record { number = o.number; asked = w } ∷ os) (o ∷ rewindow n w os) (AllByRecursion Q)
     (λ e.
     let i : n ≡ o.number = eqb-true n o.number e in (
       f o (sym i) h.0,
@@ -107,9 +107,9 @@ pub length_without : (n : ℕ) (os : List Order) → holds n os ≡ true → len
 length_without n [] h = grind arith
 length_without n (o ∷ os) h = grind (arith, length_without n os)
 
-pub all_without : (n : ℕ) (P : Order → Type 0) (os : List Order) → All P os → All P (without n os)
+pub all_without : (n : ℕ) (P : Order → Type 0) (os : List Order) → AllByRecursion P os → AllByRecursion P (without n os)
 all_without n P [] h = tt
-all_without n P (o ∷ os) h = cond_both (eqb n o.number) os (o ∷ without n os) (All P) (λ _. h.1) (λ _. (h.0, all_without n P os h.1))
+all_without n P (o ∷ os) h = cond_both (eqb n o.number) os (o ∷ without n os) (AllByRecursion P) (λ _. h.1) (λ _. (h.0, all_without n P os h.1))
 
 pub ascends_without : (n : ℕ) (os : List Order) → Ascends (numbers os) → Ascends (numbers (without n os))
 ascends_without n [] a = tt
@@ -118,11 +118,11 @@ ascends_without n (o ∷ os) a =
     (λ _. (above_by (without n) (all_without n) o.number os a.0, ascends_without n os a.1))
 
 -- letting out
-pub all_staying : (t : ℕ) (ts : List ℕ) (P : Order → Type 0) (os : List Order) → All P os → All P (staying t os ts)
+pub all_staying : (t : ℕ) (ts : List ℕ) (P : Order → Type 0) (os : List Order) → AllByRecursion P os → AllByRecursion P (staying t os ts)
 all_staying t ts P [] h = tt
 all_staying t [] P (o ∷ os) h = tt
 all_staying t (u ∷ ts) P (o ∷ os) h =
-    cond_both (eqb t u) (staying t os ts) (o ∷ staying t os ts) (All P) (λ _. all_staying t ts P os h.1) (λ _. (h.0, all_staying t ts P os h.1))
+    cond_both (eqb t u) (staying t os ts) (o ∷ staying t os ts) (AllByRecursion P) (λ _. all_staying t ts P os h.1) (λ _. (h.0, all_staying t ts P os h.1))
 
 pub ascends_staying : (t : ℕ) (os : List Order) (ts : List ℕ) → Ascends (numbers os) → Ascends (numbers (staying t os ts))
 ascends_staying t [] ts a = tt
@@ -136,11 +136,11 @@ length_staying t [] ts = omega arith
 length_staying t (o ∷ os) [] = omega arith
 length_staying t (o ∷ os) (u ∷ ts) = grind (arith, length_staying t os ts)
 
-all_leaving : (P : ℕ → Type 0) (t : ℕ) (os : List Order) (ts : List ℕ) → All P (numbers os) → All P (leaving t os ts)
+all_leaving : (P : ℕ → Type 0) (t : ℕ) (os : List Order) (ts : List ℕ) → AllByRecursion P (numbers os) → AllByRecursion P (leaving t os ts)
 all_leaving P t [] ts h = tt
 all_leaving P t (o ∷ os) [] h = tt
 all_leaving P t (o ∷ os) (u ∷ ts) h =
-    cond_both (eqb t u) (o.number ∷ leaving t os ts) (leaving t os ts) (All P) (λ _. (h.0, all_leaving P t os ts h.1)) (λ _. all_leaving P t os ts h.1)
+    cond_both (eqb t u) (o.number ∷ leaving t os ts) (leaving t os ts) (AllByRecursion P) (λ _. (h.0, all_leaving P t os ts h.1)) (λ _. all_leaving P t os ts h.1)
 
 pub ascends_leaving : (t : ℕ) (os : List Order) (ts : List ℕ) → Ascends (numbers os) → Ascends (leaving t os ts)
 ascends_leaving t [] ts a = tt
@@ -171,24 +171,24 @@ module _ (k : ℕ) where
 
   -- who leaves on day t has it in its window
   pub leaving_inside : (P : ℕ → Type 0) (t : ℕ) (os : List Order) (ts : List ℕ) → Assignment (map (begun_at k) os) ts
-      → All (λ o. o.asked.0 ≤ t → t ≤ o.asked.1 → P o.number) os → All P (leaving t os ts)
+      → AllByRecursion (λ o. o.asked.0 ≤ t → t ≤ o.asked.1 → P o.number) os → AllByRecursion P (leaving t os ts)
   leaving_inside P t [] ts a h = tt
   leaving_inside P t (o ∷ os) [] a h = absurd a
   leaving_inside P t (o ∷ os) (u ∷ ts) a h =
-      cond_both (eqb t u) (o.number ∷ leaving t os ts) (leaving t os ts) (All P)
+      cond_both (eqb t u) (o.number ∷ leaving t os ts) (leaving t os ts) (AllByRecursion P)
       (λ e.
       let f : t ≡ u = eqb-true t u e in
       (h.0 (omega arith) (omega arith), leaving_inside P t os ts a.2 h.1))
       (λ _. leaving_inside P t os ts a.2 h.1)
 
   -- an order with a day has not passed its window
-  pub not_past : (os : List Order) (ts : List ℕ) → Assignment (map (begun_at k) os) ts → All (λ o. k ≤ o.asked.1) os
+  pub not_past : (os : List Order) (ts : List ℕ) → Assignment (map (begun_at k) os) ts → AllByRecursion (λ o. k ≤ o.asked.1) os
   not_past [] ts a = tt
   not_past (o ∷ os) [] a = absurd a
   not_past (o ∷ os) (u ∷ ts) a = (omega arith, not_past os ts a.2)
 
   -- no one is done on a day past all windows
-  pub none_far : (t : ℕ) (os : List Order) (ts : List ℕ) → Assignment (map (begun_at k) os) ts → All (λ o. o.asked.1 < t) os → count t ts ≡ 0
+  pub none_far : (t : ℕ) (os : List Order) (ts : List ℕ) → Assignment (map (begun_at k) os) ts → AllByRecursion (λ o. o.asked.1 < t) os → count t ts ≡ 0
   none_far t [] [] a h = refl
   none_far t [] (u ∷ ts) a h = absurd a
   none_far t (o ∷ os) [] a h = absurd a

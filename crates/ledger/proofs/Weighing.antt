@@ -1,6 +1,6 @@
 -- Whether a ledger has a plan: what the weighing finds, what it means, and that the marks of 21 do not alter it.
 use Rattle.std.proofs.Common.{◌≡◌, ℕ, ◌+◌, ◌<◌, ◌≤◌, Bool, true, false, cond, ◌↔◌, List, [], ◌∷◌, map, Some, None, Option, sym, refl, subst, arith}
-use Rattle.std.specs.List.{AllByRecursion as All}
+use Rattle.std.specs.List.{AllByRecursion}
 use Rattle.plans.specs.Plans.{Window, Pair, mosts_kept, plans}
 use Rattle.plans.specs.Runs.{overfull_run}
 use Rattle.plans.specs.Sets.{meeting, needed}
@@ -17,7 +17,7 @@ use Rattle.ledger.specs.Law.{SomePlan, Orderly, ComesFirst, MarksNoMatter}
 use Rattle.ledger.proofs.Days.{pairs_long}
 
 -- the windows of a ledger in order are within the horizon
-within_all : (k d : ℕ) (os : List Order) → All (λ o. k ≤ o.asked.1) os → All (λ o. o.asked.0 ≤ o.asked.1) os → All (λ o. o.asked.1 < k + d) os
+within_all : (k d : ℕ) (os : List Order) → AllByRecursion (λ o. k ≤ o.asked.1) os → AllByRecursion (λ o. o.asked.0 ≤ o.asked.1) os → AllByRecursion (λ o. o.asked.1 < k + d) os
     → Within k d (map (begun_at k) os)
 within_all k d [] a b c = tt
 within_all k d (o ∷ os) a b c = (omega arith, omega arith, c.0, within_all k d os a.1 b.1 c.1)

@@ -1,6 +1,6 @@
 -- THE LAW of a book over its whole history.
 use Rattle.std.specs.Prelude.{◌≡◌, ℕ, suc, ◌+◌, ◌<◌, ◌≤◌, Bool, true, false, ◌⊎◌, ◌↔◌, List, [], ◌∷◌, length, is_some, Some, None, Option}
-use Rattle.std.specs.List.{AllByRecursion as All}
+use Rattle.std.specs.List.{AllByRecursion}
 use Rattle.plans.specs.Plans.{Window, count, KeepsMosts}
 use Rattle.plans.specs.Runs.{held, room, Named}
 use Rattle.plans.specs.Sets.{meeting, needed, run_marks}
@@ -26,18 +26,18 @@ Passes L k = first_fault (checks L k) ≡ None
 -- Each number is below all that follow it, so none stands there twice.
 abbrev pub Ascends : List ℕ → Type 0
 Ascends [] = Unit {0}
-Ascends (n ∷ ns) = All (λ m. n < m) ns × Ascends ns
+Ascends (n ∷ ns) = AllByRecursion (λ m. n < m) ns × Ascends ns
 
 -- WHAT EVERY LEDGER KEEPS, whatever its calendar. At most 512 orders are held, in ascending order of number, and no number
 -- is 0. Each window begins no later than it ends, ends within the horizon, and is not past. Lit days are within the
 -- horizon, and today is no later than the last day.
 pub record Orderly (L : Ledger) : Type 0 where
   pub ascending : Ascends (numbers L.held)
-  pub numbered : All (λ o. 0 < o.number) L.held
+  pub numbered : AllByRecursion (λ o. 0 < o.number) L.held
   pub few : length L.held ≤ most_held
-  pub ordered : All (λ o. o.asked.0 ≤ o.asked.1) L.held
-  pub near : All (λ o. o.asked.1 < L.today + horizon) L.held
-  pub ahead : All (λ o. L.today ≤ o.asked.1) L.held
+  pub ordered : AllByRecursion (λ o. o.asked.0 ≤ o.asked.1) L.held
+  pub near : AllByRecursion (λ o. o.asked.1 < L.today + horizon) L.held
+  pub ahead : AllByRecursion (λ o. L.today ≤ o.asked.1) L.held
   pub lit_near : (t : ℕ) → L.lit t ≡ true → (L.today ≤ t) × (t < L.today + horizon)
   pub early : L.today ≤ last_today
 
@@ -57,7 +57,7 @@ pub record GoodTurn (c : Calendar) (ns : List ℕ) (ds : List Deed) : Type 0 whe
   pub at_most : length ns ≤ (c (day_after ds)).1
   pub at_least : lit_after ds (day_after ds) ≡ true → (c (day_after ds)).0 ≤ length ns
   pub ascending : Ascends ns
-  pub inside : All (λ n. Inside (day_after ds) (last_window n ds)) ns
+  pub inside : AllByRecursion (λ n. Inside (day_after ds) (last_window n ds)) ns
 
 -- How often a number was withdrawn or let out.
 abbrev pub ends : ℕ → List Deed → ℕ
@@ -79,9 +79,9 @@ pub record Accounted (c : Calendar) (ds : List Deed) (L : Ledger) : Type 0 where
   pub today : L.today ≡ day_after ds
   pub lit : (t : ℕ) → L.lit t ≡ lit_after ds t
   -- Every turn was good.
-  pub good_turns : All (λ t. GoodTurn c t.0 t.1) (turns ds)
+  pub good_turns : AllByRecursion (λ t. GoodTurn c t.0 t.1) (turns ds)
   -- Each held order stands under the window last accepted for it, and that window is not past.
-  pub held : All (λ o. (last_window o.number ds ≡ Some o.asked) × (L.today ≤ o.asked.1)) L.held
+  pub held : AllByRecursion (λ o. (last_window o.number ds ≡ Some o.asked) × (L.today ≤ o.asked.1)) L.held
   -- Each admission ends in exactly one withdrawal or one letting out, or is held: for every number, and at all times,
   pub in_turn : (n : ℕ) → Always (InTurn n) ds
   pub each_ended : (n : ℕ)

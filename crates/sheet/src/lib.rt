@@ -3,7 +3,7 @@
 // A sheet: the three lines that open it, its faults and its replies.
 pub mod fault;
 pub mod opening;
-mod pairs;
+mod pairing;
 pub mod reply;
 
 pub use fault::{Refusal, SheetFault};

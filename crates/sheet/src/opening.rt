@@ -7,7 +7,7 @@ ghost use Rattle.sheet.specs.Header.{version_of, mark_line, week_from, week_line
 ghost use Rattle.sheet.specs.Told.{lines_read, asked_of};
 
 use crate::fault::{Refusal, SheetFault};
-use crate::pairs::pair_up;
+use crate::pairing::pair_up;
 use calendar::{Closing, Weekly};
 use reading::decimal::number;
 use reading::{Count, Lines, line_numbers};

@@ -2,7 +2,7 @@ use Rattle.std.proofs.Common.{◌≡◌, ℕ, ◌+◌, ◌*◌, ◌/◌, ◌<◌
 use Rattle.std.proofs.lemmas.List.{take_all}
 use Rattle.sheet.specs.Header.{in_pairs}
 use Rattle.sheet.proofs.Fills.{fill_more, length_in_pairs, getD_in_pairs}
-use Rattle.sheet.proofs.pairs.pair_up.Goals as goal
+use Rattle.sheet.proofs.pairing.pair_up.Goals as goal
 
 pub loop-i-preserved : goal.loop-i-preserved
 loop-i-preserved c =
