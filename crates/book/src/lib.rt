@@ -1,6 +1,6 @@
+// The order book of a bakery, over any calendar: a book, on which the day turns, and a trial, which is kept or undone.
 #![tactic(auto)]
 
-// The order book of a bakery, over any calendar: a book, on which the day turns, and a trial, which is kept or undone.
 pub mod desk;
 pub mod mode;
 

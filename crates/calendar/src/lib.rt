@@ -1,6 +1,6 @@
+// Calendars: how few and how many orders each day takes.
 #![tactic(auto)]
 
-// Calendars: how few and how many orders each day takes.
 ghost use Rattle.std.specs.Prelude.{◌≡◌, ℕ, ◌<◌};
 ghost use Rattle.pairs.specs.Pairs.{Sound};
 

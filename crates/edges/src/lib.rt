@@ -1,6 +1,6 @@
+// The edges of every check of calendars, headers and the verdict, of the table of orders, and small first plans, as tests.
 #![tactic(auto)]
 
-// The edges of every check of calendars, headers and the verdict, of the table of orders, and small first plans, as tests.
 #[cfg(test)]
 mod planned;
 #[cfg(test)]

@@ -1,7 +1,7 @@
-#![tactic(auto)]
-
 // Puts every small problem to the verdict, the narrowing and the support question, and compares with what is found by trying
 // everything.
+#![tactic(auto)]
+
 mod problems;
 mod search;
 

@@ -1,6 +1,6 @@
+// Why the book refuses a call.
 #![tactic(auto)]
 
-// Why the book refuses a call.
 ghost use Rattle.std.specs.Prelude.{◌≡◌};
 ghost use Rattle.faults.specs.Faults.{check_number, number_of, place_of, counts_of, layer_of};
 

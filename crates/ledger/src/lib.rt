@@ -1,6 +1,6 @@
+// The ledger of a book: its theorems, each the contract of a function of its own.
 #![tactic(auto)]
 
-// The ledger of a book: its theorems, each the contract of a function of its own.
 ghost use Rattle.ledger.specs.Law.{Law, LawGoesOn, OrderlyByCalls, KeptByCalls, MarksNoMatter, Answerable};
 ghost use Rattle.ledger.specs.Worked.{WorkedCases};
 

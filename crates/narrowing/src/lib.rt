@@ -1,7 +1,7 @@
-#![tactic(auto)]
-
 // Records with windows on a range of days: the verdict whether some plan gives each of them a day, the narrowing of their
 // windows to the days that plans give them, and the question whether a plan gives one of them a certain day.
+#![tactic(auto)]
+
 mod counting;
 mod judging;
 pub mod laws;

@@ -1,6 +1,6 @@
+// The orders of a book, as records with the window that the narrowing tells, and the table that holds them.
 #![tactic(auto)]
 
-// The orders of a book, as records with the window that the narrowing tells, and the table that holds them.
 mod listing;
 pub mod order;
 pub mod table;

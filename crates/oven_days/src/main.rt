@@ -1,6 +1,6 @@
+// Reads the three lines that open a sheet from standard input, and prints the bakery's first 56 days.
 #![tactic(auto)]
 
-// Reads the three lines that open a sheet from standard input, and prints the bakery's first 56 days.
 mod day;
 
 use calendar::{Closing, Weekly};

@@ -1,6 +1,6 @@
+// The pair of a day: how few orders light its oven, and how many it takes at most.
 #![tactic(auto)]
 
-// The pair of a day: how few orders light its oven, and how many it takes at most.
 ghost use Rattle.std.specs.Prelude.{◌≡◌};
 ghost use Rattle.pairs.specs.Pairs.{bad_pair};
 

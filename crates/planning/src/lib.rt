@@ -1,6 +1,6 @@
+// The first plan of records: of all plans the one whose list of days comes first, compared from the front.
 #![tactic(auto)]
 
-// The first plan of records: of all plans the one whose list of days comes first, compared from the front.
 mod closing;
 mod planning;
 mod windows;

@@ -1,6 +1,6 @@
+// The theorems on plans, each the contract of a function of its own.
 #![tactic(auto)]
 
-// The theorems on plans, each the contract of a function of its own.
 ghost use Rattle.plans.specs.Plans.{PlansListed};
 ghost use Rattle.plans.specs.Runs.{RunNamed};
 ghost use Rattle.plans.specs.Sets.{ShortageExcludes, RunsMarked};

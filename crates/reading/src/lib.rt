@@ -1,6 +1,6 @@
+// Bytes read as lines, fields and numbers.
 #![tactic(auto)]
 
-// Bytes read as lines, fields and numbers.
 mod cut;
 pub mod decimal;
 pub mod reader;

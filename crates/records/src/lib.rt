@@ -1,6 +1,6 @@
+// Records, which have windows, what is asked of them before a verdict, and why it is refused.
 #![tactic(auto)]
 
-// Records, which have windows, what is asked of them before a verdict, and why it is refused.
 mod checks;
 pub mod fault;
 pub mod limits;

@@ -1,6 +1,6 @@
+// A sheet: the three lines that open it, its faults and its replies.
 #![tactic(auto)]
 
-// A sheet: the three lines that open it, its faults and its replies.
 pub mod fault;
 pub mod opening;
 mod pairing;

@@ -1,6 +1,6 @@
+// The state of a book: the calls that a book and a trial share, over any calendar.
 #![tactic(auto)]
 
-// The state of a book: the calls that a book and a trial share, over any calendar.
 pub mod state;
 
 pub use faults::{BookFault, Cause, Check};
