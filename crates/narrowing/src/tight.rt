@@ -1,6 +1,6 @@
 // Tight runs: for each end the earliest begin of one, and for each begin the latest end. A run from first day p to last
 // day v ends at v + 1.
-ghost use Rattle.std.specs.Prelude.{◌≡◌, ℕ, ◌<◌, ◌≤◌, max, true, false, ◌||◌, length, if◌then◌else◌, ◌==◌, nat_eq, slice_index};
+ghost use Rattle.std.specs.Prelude.{◌≡◌, ℕ, ◌<◌, ◌≤◌, max, true, false, ◌||◌, length, if◌then◌else◌, ◌==◌, slice_index};
 ghost use Rattle.narrowing.specs.Counting.{Blank, Summed};
 ghost use Rattle.narrowing.specs.Scanning.{tight?, NeedsMeet, EarliestOf, LatestOf};
 
@@ -15,7 +15,7 @@ fn is_tight(held: u32, room: u32, need: u32, rest: u32) -> bool
 
 // The end of a run if it is tight, and 0 if not.
 fn end_if_tight(held: u32, room: u32, need: u32, rest: u32, end: u16) -> u16
-    ensures { result ≡ (if nat_eq held room || need == rest then end else 0) }
+    ensures { result ≡ (if held == room || need == rest then end else 0) }
 {
     if is_tight(held, room, need, rest) {
         end

@@ -8,14 +8,14 @@ length_in_pairs [] = refl
 length_in_pairs (a ∷ []) = refl
 length_in_pairs (a ∷ b ∷ ns) = let e : suc (length ns / 2) ≡ suc (suc (length ns)) / 2 = omega arith in ap suc (length_in_pairs ns) ∙ e
 
-pub getD_in_pairs : (ns : List ℕ) (i : ℕ) → i < length ns / 2 → get_or (in_pairs ns) i (0, 0) ≡ (get_or ns (2 * i) 0, get_or ns (2 * i + 1) 0)
-getD_in_pairs [] i h = absurd (omega arith)
-getD_in_pairs (a ∷ []) i h = absurd (let z : 1 / 2 ≡ 0 = refl in omega (arith, z))
-getD_in_pairs (a ∷ b ∷ ns) zero h = refl
-getD_in_pairs (a ∷ b ∷ ns) (suc i) h =
+pub get_or_in_pairs : (ns : List ℕ) (i : ℕ) → i < length ns / 2 → get_or (in_pairs ns) i (0, 0) ≡ (get_or ns (2 * i) 0, get_or ns (2 * i + 1) 0)
+get_or_in_pairs [] i h = absurd (omega arith)
+get_or_in_pairs (a ∷ []) i h = absurd (let z : 1 / 2 ≡ 0 = refl in omega (arith, z))
+get_or_in_pairs (a ∷ b ∷ ns) zero h = refl
+get_or_in_pairs (a ∷ b ∷ ns) (suc i) h =
     let even : 2 * suc i ≡ suc (suc (2 * i)) = omega arith in
     let odd : 2 * suc i + 1 ≡ suc (suc (2 * i + 1)) = omega arith in
-    getD_in_pairs ns i (omega arith) ∙ sym (λ j. (get_or (a ∷ b ∷ ns) (even j) 0, get_or (a ∷ b ∷ ns) (odd j) 0))
+    get_or_in_pairs ns i (omega arith) ∙ sym (λ j. (get_or (a ∷ b ∷ ns) (even j) 0, get_or (a ∷ b ∷ ns) (odd j) 0))
 
 -- one more entry of ps written over those of es
 pub fill_more : {X : Type 0} (ps es : List X) (i : ℕ) (x d : X) → i < length ps → i < length es → get_or ps i d ≡ x → set (take i ps ++ drop i es) i x ≡ take (i + 1) ps ++ drop (i + 1) es

@@ -1,7 +1,7 @@
 use Rattle.std.proofs.Common.{◌≡◌, ℕ, ◌+◌, ◌*◌, ◌/◌, ◌<◌, ◌++◌, length, get_or, take, drop, set, ap, ◌∙◌, arith}
 use Rattle.std.proofs.lemmas.List.{take_all}
 use Rattle.sheet.specs.Header.{in_pairs}
-use Rattle.sheet.proofs.Fills.{fill_more, length_in_pairs, getD_in_pairs}
+use Rattle.sheet.proofs.Fills.{fill_more, length_in_pairs, get_or_in_pairs}
 use Rattle.sheet.proofs.pairing.pair_up.Goals as goal
 
 pub loop-i-preserved : goal.loop-i-preserved
@@ -11,7 +11,7 @@ loop-i-preserved c =
     let pair : ℕ × ℕ = (get_or ns (2 * i) 0, get_or ns (2 * i + 1) 0) in
     let h : i < length ns / 2 = c.loop-i-test.true in
     ap (λ ps. set ps i pair) c.loop-i.invariant
-    ∙ fill_more (in_pairs ns) c.args.pairs.now i pair (0, 0) (omega (arith, length_in_pairs ns)) (omega (arith, c.requires)) (getD_in_pairs ns i h)
+    ∙ fill_more (in_pairs ns) c.args.pairs.now i pair (0, 0) (omega (arith, length_in_pairs ns)) (omega (arith, c.requires)) (get_or_in_pairs ns i h)
 
 pub returns : goal.returns
 returns c =
