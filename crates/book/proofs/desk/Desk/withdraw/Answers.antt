@@ -1,15 +1,10 @@
-use Rattle.std.proofs.Common.{length, refl}
+use Rattle.std.proofs.Common.{length, rules}
 use Rattle.ledger.specs.Calls.{Edit.withdraw}
 use Rattle.state.specs.Model.{ledger_of}
 use Rattle.book.proofs.Lives.{edited_life}
 use Rattle.book.proofs.desk.Desk.withdraw.Goals as goal
 
-pub returns : goal.returns
-returns g c =
+pub returns-clause-life : goal.returns-clause-life
+returns-clause-life g c =
     let d = c.args.self.now in
-    record {
-      told = c.withdraw.ensures.told;
-      life = edited_life (g.C.Calendar.told d.calendar) (ledger_of d.state) (ledger_of c.withdraw.new.self) (g.M.Mode.begun d.mode) (withdraw c.args.number)
-          (length c.args.marks.now) c.withdraw.ensures.ledger;
-      same = refl;
-    }
+    edited_life (g.C.Calendar.told d.calendar) (ledger_of d.state) _ (g.M.Mode.begun d.mode) (withdraw c.args.number) (length c.args.marks.now) (search rules)
