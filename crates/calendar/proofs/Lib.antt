@@ -1,2 +1,1 @@
 mod AsAsked
-mod Weekdays

@@ -1,5 +1,5 @@
 -- The meaning of each kind of calendar, read off its fields.
-use Rattle.std.specs.Prelude.{ℕ, List, take}
+use Rattle.std.specs.Prelude.{ℕ, List}
 use Rattle.calendar.specs.declared.list.Listed.{Listed}
 use Rattle.calendar.specs.declared.week.Weekly.{Weekly}
 use Rattle.calendar.specs.declared.layer.Closing.{Closing}
@@ -17,7 +17,7 @@ weekly_told c = weekly c.rows c.start
 
 -- the closed runs of a layer
 abbrev pub runs_of : {C : Type 0} → Closing C → List (ℕ × ℕ)
-runs_of c = take c.count c.runs
+runs_of c = c.runs.items
 
 -- the calendar under a layer
 abbrev pub below_of : {C : Type 0} → Closing C → C

@@ -1,5 +1,6 @@
-ghost use Rattle.std.specs.Prelude.{◌≡◌};
 ghost use Rattle.calendar.specs.Faults.{number_of, place_of, layer_of};
+
+use refusals::Fault;
 
 // Why a check refuses.
 #[derive(Clone, Copy, PartialEq, Eq, Debug)]
@@ -16,11 +17,14 @@ pub enum CalendarFault {
     TooManyRuns,
 }
 
-impl CalendarFault {
-    // The number of the refusal.
-    pub fn number(self) -> u16
-        ensures { result ≡ number_of self }
-    {
+impl Fault for CalendarFault {
+    ghost numbered = { number_of };
+
+    ghost placed = { place_of };
+
+    ghost lettered = { layer_of };
+
+    fn number(self) -> u16 {
         match self {
             CalendarFault::NoWeekday => 40,
             CalendarFault::TooManyPairs => 40,
@@ -30,10 +34,8 @@ impl CalendarFault {
         }
     }
 
-    // The row or run that it names, counted from 0.
-    pub fn place(self) -> Option<usize>
-        ensures { result ≡ place_of self }
-    {
+    // The row or run that it names.
+    fn place(self) -> Option<usize> {
         match self {
             CalendarFault::BadRow(row) => Some(row),
             CalendarFault::BadRun(run) => Some(run),
@@ -41,10 +43,7 @@ impl CalendarFault {
         }
     }
 
-    // The letter of this layer.
-    pub fn layer(self) -> char
-        ensures { result ≡ layer_of self }
-    {
+    fn layer(self) -> char {
         'C'
     }
 }

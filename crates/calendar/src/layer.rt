@@ -1,14 +1,11 @@
-ghost use Rattle.std.specs.Prelude.{◌≤◌};
-
 use crate::CLOSED_RUNS;
+use arrayvec::ArrayVec;
 
-// Up to 16 closed runs of days on any calendar: the first `count` of `runs`, each a first and a last day.
+// Up to 16 closed runs of days on any calendar, each a first and a last day.
 #[derive(Drop)]
 pub struct Closing<C> {
     below: C,
-    runs: [(u16, u16); CLOSED_RUNS],
-    count: usize,
-    ghost few: { count ≤ 16 },
+    runs: ArrayVec<(u16, u16), CLOSED_RUNS>,
 }
 
 pub mod calls;

@@ -8,8 +8,5 @@ use pairs::first_bad_pair;
 pub(crate) fn check_rows(rows: &[(u16, u16)]) -> Result<(), CalendarFault>
     ensures { result ≡ rows_check rows.now }
 {
-    match first_bad_pair(rows) {
-        Some(row) => Err(CalendarFault::BadRow(row)),
-        None => Ok(()),
-    }
+    first_bad_pair(rows).map_or(Ok(()), |row| Err(CalendarFault::BadRow(row)))
 }

@@ -17,5 +17,5 @@ pub(crate) fn weekday(start: u16, day: u16) -> u8
     requires { start < 7 }
     ensures { result ≡ weekday_on start day }
 {
-    WEEKDAYS[start as usize][(day % 7) as usize]
+    WEEKDAYS[usize::from(start)][usize::from(day % 7)]
 }

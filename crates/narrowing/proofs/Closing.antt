@@ -12,7 +12,7 @@ use Rattle.records.specs.declared.record.bare.Window.{Window as Bare}
 use Rattle.records.specs.Bare.{span_of}
 use Rattle.narrowing.specs.declared.support.SupportFault.TheVariants.{NoSuchQuestion}
 use Rattle.records.specs.Checks.{checked}
-use Rattle.narrowing.specs.Support.{bare, askable, support_of, copied}
+use Rattle.narrowing.specs.Support.{askable, support_of}
 
 -- one element more, copied over the front
 pub copy_more : {X Y : Type 0} (f : X → Y) (xs : List X) (ys : List Y) (i : ℕ) (d : X) → i < length xs → length xs ≤ length ys
@@ -129,16 +129,9 @@ module _ (k : ℕ) (pairs : List Pair) (ws : List Window) (i t m n : ℕ) (ok : 
   pub asked : askable k (length pairs) n i t m ≡ true → (b : Bool) → b ≡ supported k pairs ws i t → Ok b ≡ support_of k pairs ws i t m
   asked f b is = rw (ok, e, f, is)
 
-pub asked_place : (k d n i t m : ℕ) → askable k d n i t m ≡ true → i < n
-asked_place k d n i t m e =
+-- the place is one of the records, and the list has room for them
+pub asked_within : (k d n i t m : ℕ) → askable k d n i t m ≡ true → (i < n) × (n ≤ m)
+asked_within k d n i t m e =
     let a = and_parts (ltb i n && leb k t && ltb t (k + d)) (leb n m) e in
     let b = and_parts (ltb i n && leb k t) (ltb t (k + d)) a.0 in
-    ltb-true i n (and_parts (ltb i n) (leb k t) b.0).0
-
--- the windows at the front of the working list
-spans_bare : (ws : List Window) → map span_of (map bare ws) ≡ ws
-spans_bare [] = refl
-spans_bare (w ∷ ws) = ap (λ l. w ∷ l) (spans_bare ws)
-
-pub front_spans : (ws : List Window) (work xs : List Bare) (n : ℕ) → length ws ≡ n → xs ≡ copied ws work → map span_of (take n xs) ≡ ws
-front_spans ws work xs n e is = ap (λ l. map span_of (take n l)) is ∙ ap (map span_of) (take_at (map bare ws) (drop (length ws) work) n (length-map ws bare ∙ e)) ∙ spans_bare ws
+    (ltb-true i n (and_parts (ltb i n) (leb k t) b.0).0, leb-true n m a.1)

@@ -1,10 +1,11 @@
 -- The support question: whether some plan gives a record a day.
-use Rattle.std.specs.Prelude.{ℕ, ◌+◌, Bool, cond, ◌&&◌, List, ◌++◌, map, length, drop, None, Ok, Err, Option, Result, nat_le, nat_lt}
+use Rattle.std.specs.Prelude.{ℕ, ◌+◌, Bool, cond, ◌&&◌, List, length, None, Ok, Err, Option, Result, nat_le, nat_lt}
 use Rattle.plans.specs.Plans.{Pair}
 use Rattle.plans.specs.Narrowing.{supported}
 use Rattle.records.specs.declared.record.bare.Window.{Window}
 use Rattle.narrowing.specs.declared.support.SupportFault.{SupportFault}
 use Rattle.narrowing.specs.declared.support.SupportFault.TheVariants.{Refused, NoSuchQuestion}
+use Rattle.records.specs.Bare.{copied}
 use Rattle.records.specs.Faults.{number_of, place_of}
 use Rattle.records.specs.Checks.{Outcome, checked}
 
@@ -40,12 +41,6 @@ support_of k pairs ws i t m =
     (cond (askable k (length pairs) (length ws) i t m) (Ok (supported k pairs ws i t)) (Err NoSuchQuestion))
 
 -- The working list afterwards: the windows at its front, and its later entries as they were; all of it after a refusal.
-abbrev pub bare : ℕ × ℕ → Window
-bare w = record { first = w.0; last = w.1 }
-
-abbrev pub copied : List (ℕ × ℕ) → List Window → List Window
-copied ws work = map bare ws ++ drop (length ws) work
-
 abbrev pub work_after : Support → List (ℕ × ℕ) → List Window → List Window
 work_after (Ok _) ws work = copied ws work
 work_after (Err fault) ws work = work

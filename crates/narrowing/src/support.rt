@@ -4,14 +4,15 @@ ghost use Rattle.plans.specs.Needs.{Within, Proper};
 ghost use Rattle.plans.specs.Narrowing.{supported, Possible};
 ghost use Rattle.records.specs.Bare.{span_of};
 ghost use Rattle.narrowing.specs.Counting.{Blank, Counted};
-ghost use Rattle.narrowing.specs.Support.{support_number, support_place, support_layer, askable, support_of, copied, work_after};
+ghost use Rattle.narrowing.specs.Support.{support_number, support_place, support_layer, askable, support_of, work_after};
 ghost use Rattle.narrowing.specs.declared.support.SupportFault.TheVariants.{Refused};
 
 use crate::counting::count_runs;
 use crate::needs::needs_left;
 use crate::runs::{overfull, sum_mosts};
 use records::limits::{CELLS, EDGES};
-use records::{NarrowingFault, Record, Window, check};
+use records::{NarrowingFault, Record, Window, check, copy_windows};
+use refusals::Fault;
 
 // Why a question has no answer.
 #[derive(Clone, Copy, PartialEq, Eq, Debug)]
@@ -22,31 +23,28 @@ pub enum SupportFault {
     NoSuchQuestion,
 }
 
-impl SupportFault {
-    // The number of the refusal.
-    pub fn number(self) -> u16
-        ensures { result ≡ support_number self }
-    {
+impl Fault for SupportFault {
+    ghost numbered = { support_number };
+
+    ghost placed = { support_place };
+
+    ghost lettered = { support_layer };
+
+    fn number(self) -> u16 {
         match self {
             SupportFault::Refused(fault) => fault.number(),
             SupportFault::NoSuchQuestion => 14,
         }
     }
 
-    // The day or the place that it names.
-    pub fn place(self) -> Option<usize>
-        ensures { result ≡ support_place self }
-    {
+    fn place(self) -> Option<usize> {
         match self {
             SupportFault::Refused(fault) => fault.place(),
             SupportFault::NoSuchQuestion => None,
         }
     }
 
-    // The letter of this layer.
-    pub fn layer(self) -> char
-        ensures { result ≡ support_layer self }
-    {
+    fn layer(self) -> char {
         'K'
     }
 }
@@ -90,17 +88,6 @@ impl Closed<'_> {
         ensures { Counted first days (map span_of self.entry.now.windows.now) table.new }
     {
         count_runs(first, &*self.windows, days, table);
-    }
-}
-
-// Copies the windows of the records to the front of a list.
-fn copy_windows<R: Record>(records: &[R], work: &mut [Window])
-    requires { length records.now ≤ length work.old }
-    ensures { work.new ≡ copied (map R.span records.now) work.old }
-{
-    for i in 0..records.len() {
-        let (first, last) = records[i].window();
-        work[i] = Window { first, last };
     }
 }
 

@@ -11,11 +11,7 @@ pub const MOST: u16 = 512;
 pub fn first_bad_pair(pairs: &[(u16, u16)]) -> Option<usize>
     ensures { result ≡ bad_pair pairs.now }
 {
-    for (i, pair) in pairs.iter().enumerate() {
-        let (fewest, most) = *pair;
-        if fewest > most || most > MOST {
-            return Some(i);
-        }
-    }
-    None
+    pairs
+        .iter()
+        .position(|&(fewest, most)| fewest > most || most > MOST)
 }

@@ -1,12 +1,12 @@
 -- The checks one after the other, and what holds where all are passed.
-use Rattle.std.proofs.Common.{◌≡◌, ℕ, ◌+◌, ◌-◌, ◌<◌, ◌≤◌, Bool, true, false, cond, ◌&&◌, ltb, leb, List, length, Some, None, Ok, Err, Option, refl, arith}
+use Rattle.std.proofs.Common.{◌≡◌, ℕ, ◌+◌, ◌-◌, ◌<◌, ◌≤◌, Bool, true, false, cond, ◌&&◌, not, ltb, leb, List, length, Some, None, Ok, Err, Option, refl, arith}
 use Rattle.std.proofs.lemmas.Bool.{and_parts, leb-true, ltb-true, le-leb, lt-leb}
 use Rattle.plans.specs.Plans.{Window, Pair}
 use Rattle.plans.specs.Needs.{Proper}
 use Rattle.records.specs.declared.fault.NarrowingFault.{NarrowingFault}
 use Rattle.records.specs.declared.fault.NarrowingFault.TheVariants.{BadRange, BadPair, TooManyRecords, BadWindow}
 use Rattle.pairs.specs.Pairs.{bad_pair}
-use Rattle.pairs.specs.Places.{failing}
+use Rattle.std.specs.List.{position}
 use Rattle.records.specs.Checks.{Outcome, in_range, stands, unless, past, range_check, pairs_check, number_check, windows_check, checked}
 use Rattle.records.proofs.Places.{sound_all, stands_all}
 
@@ -60,7 +60,7 @@ passed k pairs ws n e =
       range = range_passed k d n a.0;
       few_records = leb-true (length ws) 512 (few (leb (length ws) 512) c.0);
       proper = record {
-        within = stands_all k d 0 ws (none_found BadWindow (failing (stands k d) 0 ws) c.1);
+        within = stands_all k d ws (none_found BadWindow (position (λ w. not (stands k d w)) ws) c.1);
         ordered = λ v h. sound_all pairs (none_found (λ i. BadPair (k + i)) (bad_pair pairs) b.0) v;
       };
     }

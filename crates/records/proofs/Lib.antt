@@ -1,3 +1,4 @@
-pub mod Windows
 pub mod Places
 pub mod Checked
+pub mod Windows
+pub mod Copying

@@ -1,7 +1,7 @@
 -- What is asked of the days, the pairs and the records, and the first of it that is not met.
-use Rattle.std.specs.Prelude.{ℕ, ◌+◌, ◌-◌, Bool, cond, ◌&&◌, List, length, Some, None, Ok, Err, Option, Result, nat_le, nat_lt}
+use Rattle.std.specs.Prelude.{ℕ, ◌+◌, ◌-◌, Bool, cond, ◌&&◌, not, List, length, Some, None, Ok, Err, Option, Result, nat_le, nat_lt}
+use Rattle.std.specs.List.{position}
 use Rattle.pairs.specs.Pairs.{bad_pair}
-use Rattle.pairs.specs.Places.{failing}
 use Rattle.plans.specs.Plans.{Window, Pair}
 use Rattle.records.specs.declared.fault.NarrowingFault.{NarrowingFault}
 use Rattle.records.specs.declared.fault.NarrowingFault.TheVariants.{BadRange, BadPair, TooManyRecords, BadWindow}
@@ -40,7 +40,7 @@ abbrev pub number_check : List Window → Outcome
 number_check ws = cond (nat_le (length ws) 512) (Ok tt) (Err TooManyRecords)
 
 abbrev pub windows_check : ℕ → ℕ → List Window → Outcome
-windows_check k d ws = unless BadWindow (failing (stands k d) 0 ws)
+windows_check k d ws = unless BadWindow (position (λ w. not (stands k d w)) ws)
 
 -- All of them, in this order.
 abbrev pub checked : ℕ → List Pair → List Window → ℕ → Outcome

@@ -1,6 +1,6 @@
 // What is asked of the days, the pairs and the records.
-ghost use Rattle.std.specs.Prelude.{◌≡◌, ◌+◌, ◌≤◌, map, length};
-ghost use Rattle.pairs.specs.Places.{failing};
+ghost use Rattle.std.specs.Prelude.{◌≡◌, ◌+◌, ◌≤◌, map, not, length};
+ghost use Rattle.std.specs.List.{position};
 ghost use Rattle.records.specs.Checks.{stands, past, range_check, pairs_check, number_check, windows_check, checked};
 
 use crate::fault::NarrowingFault;
@@ -12,7 +12,7 @@ use pairs::first_bad_pair;
 fn check_range(first: u16, days: usize, marks: usize) -> Result<(), NarrowingFault>
     ensures { result ≡ range_check first days marks }
 {
-    if days == 0 || days > MOST_DAYS || marks < days || first as usize + days - 1 > LAST_DAY {
+    if days == 0 || days > MOST_DAYS || marks < days || usize::from(first) + days - 1 > LAST_DAY {
         return Err(NarrowingFault::BadRange);
     }
     Ok(())
@@ -24,7 +24,7 @@ fn check_pairs(first: u16, pairs: &[(u16, u16)]) -> Result<(), NarrowingFault>
     ensures { result ≡ pairs_check first pairs.now }
 {
     match first_bad_pair(pairs) {
-        Some(i) => Err(NarrowingFault::BadPair(first + i as u16)),
+        Some(place) => Err(NarrowingFault::BadPair(first + place as u16)),
         None => Ok(()),
     }
 }
@@ -34,19 +34,17 @@ fn lies_within(day: u16, days: usize, window: (u16, u16)) -> bool
     ensures { result ≡ stands day days window }
 {
     let (first, last) = window;
-    first <= last && day <= first && ((last - day) as usize) < days
+    first <= last && day <= first && usize::from(last - day) < days
 }
 
 // The first place whose window does not.
 fn first_bad_window<R: Record>(day: u16, days: usize, records: &[R]) -> Option<usize>
-    ensures { result ≡ failing (stands day days) 0 (map R.span records.now) }
+    ensures { result ≡ position (λ w. not (stands day days w)) (map R.span records.now) }
 {
-    for (i, each) in records.iter().enumerate() {
-        if !lies_within(day, days, each.window()) {
-            return Some(i);
-        }
-    }
-    None
+    records
+        .iter()
+        .map(|each| each.window())
+        .position(|window| !lies_within(day, days, window))
 }
 
 // First how many records there are, then their windows.
@@ -56,10 +54,10 @@ fn check_records<R: Record>(first: u16, days: usize, records: &[R]) -> Result<()
     if records.len() > MOST_RECORDS {
         return Err(NarrowingFault::TooManyRecords);
     }
-    match first_bad_window(first, days, records) {
-        Some(place) => Err(NarrowingFault::BadWindow(place)),
-        None => Ok(()),
-    }
+    first_bad_window(first, days, records).map_or(
+        Ok(()),
+        |place| Err(NarrowingFault::BadWindow(place)),
+    )
 }
 
 // The checks in their order.

@@ -1,6 +1,8 @@
 ghost use Rattle.std.specs.Prelude.{◌≡◌};
 ghost use Rattle.records.specs.Faults.{number_of, place_of, counts_of, layer_of};
 
+use refusals::Fault;
+
 // Why there is no verdict, or what it is where there is no plan.
 #[derive(Clone, Copy, PartialEq, Eq, Debug)]
 pub enum NarrowingFault {
@@ -18,38 +20,39 @@ pub enum NarrowingFault {
     Short { windows: u16, fewests: u32 },
 }
 
-impl NarrowingFault {
-    // The number of the refusal.
-    pub fn number(self) -> u16
-        ensures { result ≡ number_of self }
-    {
+impl Fault for NarrowingFault {
+    ghost numbered = { number_of };
+
+    ghost placed = { place_of };
+
+    ghost lettered = { layer_of };
+
+    fn number(self) -> u16 {
         match self {
             NarrowingFault::BadRange => 10,
             NarrowingFault::BadPair(_) => 11,
             NarrowingFault::TooManyRecords => 12,
             NarrowingFault::BadWindow(_) => 13,
-            NarrowingFault::Overfull {
-                windows: _,
-                mosts: _,
-            } => 20,
-            NarrowingFault::Short {
-                windows: _,
-                fewests: _,
-            } => 21,
+            NarrowingFault::Overfull { .. } => 20,
+            NarrowingFault::Short { .. } => 21,
         }
     }
 
-    // The day or the place that it names; places count from 0.
-    pub fn place(self) -> Option<usize>
-        ensures { result ≡ place_of self }
-    {
+    // The day or the place of a record that it names.
+    fn place(self) -> Option<usize> {
         match self {
-            NarrowingFault::BadPair(day) => Some(day as usize),
+            NarrowingFault::BadPair(day) => Some(usize::from(day)),
             NarrowingFault::BadWindow(place) => Some(place),
             _ => None,
         }
     }
 
+    fn layer(self) -> char {
+        'K'
+    }
+}
+
+impl NarrowingFault {
     // The two counts of the marked set: its windows, and the sum of its mosts or fewests.
     pub fn counts(self) -> Option<(u16, u32)>
         ensures { result ≡ counts_of self }
@@ -59,12 +62,5 @@ impl NarrowingFault {
             NarrowingFault::Short { windows, fewests } => Some((windows, fewests)),
             _ => None,
         }
-    }
-
-    // The letter of this layer.
-    pub fn layer(self) -> char
-        ensures { result ≡ layer_of self }
-    {
-        'K'
     }
 }

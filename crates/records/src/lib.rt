@@ -9,4 +9,4 @@ pub mod record;
 pub use checks::check;
 pub use fault::NarrowingFault;
 pub use record::Record;
-pub use record::bare::Window;
+pub use record::bare::{Window, copy_windows};

@@ -1,4 +1,4 @@
-ghost use Rattle.std.specs.Prelude.{◌≡◌, ℕ, ◌≤◌, length, take, Ok};
+ghost use Rattle.std.specs.Prelude.{◌≡◌, ℕ, Ok};
 ghost use Rattle.calendar.specs.Asked.{AsClosing};
 ghost use Rattle.calendar.specs.Checks.{closing_check, kept_runs};
 ghost use Rattle.calendar.specs.Pairs.{bad_run, in_runs, closed};
@@ -8,42 +8,21 @@ ghost use Rattle.calendar.specs.Told.{runs_of, below_of};
 use super::Closing;
 use crate::fault::CalendarFault;
 use crate::{CLOSED_RUNS, Calendar};
+use arrayvec::ArrayVec;
 
 // The first run that ends before it begins.
 fn first_bad_run(runs: &[(u16, u16)]) -> Option<usize>
     ensures { result ≡ bad_run runs.now }
 {
-    for (i, run) in runs.iter().enumerate() {
-        let (first, last) = *run;
-        if first > last {
-            return Some(i);
-        }
-    }
-    None
-}
-
-// The runs at the front of sixteen.
-fn at_front(runs: &[(u16, u16)]) -> [(u16, u16); CLOSED_RUNS]
-    requires { length runs.now ≤ 16 }
-    ensures { take (length runs.now) result ≡ runs.now }
-{
-    let mut all = [(0, 0); CLOSED_RUNS];
-    let n = runs.len();
-    all[0..n].copy_from_slice(runs);
-    all
+    runs.iter().position(|&(first, last)| first > last)
 }
 
 // Whether a day lies in one of the runs.
 fn covers(runs: &[(u16, u16)], day: u16) -> bool
     ensures { result ≡ in_runs runs.now day }
 {
-    for run in runs {
-        let (first, last) = *run;
-        if first <= day && day <= last {
-            return true;
-        }
-    }
-    false
+    runs.iter()
+        .any(|&(first, last)| first <= day && day <= last)
 }
 
 impl<C> Closing<C> {
@@ -54,32 +33,23 @@ impl<C> Closing<C> {
         if runs.len() > CLOSED_RUNS {
             return Err(CalendarFault::TooManyRuns);
         }
-        match first_bad_run(runs) {
-            Some(run) => Err(CalendarFault::BadRun(run)),
-            None => Ok(()),
-        }
+        first_bad_run(runs).map_or(Ok(()), |run| Err(CalendarFault::BadRun(run)))
     }
 }
 
 impl<C: Calendar> Closing<C> {
+    #[tactic(auto, using(crate::proofs::AsAsked::as_closing))]
     // The layer of runs on a calendar; of runs that the check refuses, a layer without runs.
     pub fn new(below: C, runs: &[(u16, u16)]) -> Closing<C>
         ensures below { below_of result ≡ below }
         ensures runs { runs_of result ≡ kept_runs (closing_check runs.now) runs.now }
         ensures asked { closing_check runs.now ≡ Ok tt → AsClosing runs.now (C.told below) (closed (runs_of result) (C.told (below_of result))) }
     {
-        let Ok(()) = Closing::<C>::check(runs) else {
-            return Closing {
-                below,
-                runs: [(0, 0); CLOSED_RUNS],
-                count: 0,
-            };
-        };
-        Closing {
-            below,
-            runs: at_front(runs),
-            count: runs.len(),
+        let mut kept = ArrayVec::new();
+        if Closing::<C>::check(runs).is_ok() {
+            kept.try_extend_from_slice(runs).unwrap();
         }
+        Closing { below, runs: kept }
     }
 
     // The calendar under the layer.
@@ -93,7 +63,7 @@ impl<C: Calendar> Closing<C> {
     pub fn closes(&self, day: u16) -> bool
         ensures { result ≡ in_runs (runs_of self.now) day }
     {
-        covers(&self.runs[0..self.count], day)
+        covers(self.runs.as_slice(), day)
     }
 }
 

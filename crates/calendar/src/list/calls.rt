@@ -39,9 +39,6 @@ impl Calendar for Listed<'_> {
     ghost sound = { λ c t _. sound_at c.rows.now c.sound t };
 
     fn pair(&self, day: u16) -> (u16, u16) {
-        match self.rows.get(day as usize) {
-            Some(row) => *row,
-            None => (0, 0),
-        }
+        self.rows.get(usize::from(day)).copied().unwrap_or((0, 0))
     }
 }

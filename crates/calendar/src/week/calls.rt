@@ -50,6 +50,6 @@ impl Calendar for Weekly {
     ghost sound = { λ c t _. sound_at c.rows c.sound (weekday_on c.start t) };
 
     fn pair(&self, day: u16) -> (u16, u16) {
-        self.rows[self.weekday(day) as usize]
+        self.rows[usize::from(self.weekday(day))]
     }
 }

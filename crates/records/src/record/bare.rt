@@ -1,5 +1,6 @@
-ghost use Rattle.records.specs.Bare.{span_of, put_in};
+ghost use Rattle.std.specs.Prelude.{◌≡◌, map};
 ghost use Rattle.std.proofs.Common.{rules};
+ghost use Rattle.records.specs.Bare.{span_of, put_in, bare, copied};
 
 use crate::record::Record;
 
@@ -30,5 +31,26 @@ impl Record for Window {
             self.first = first;
             self.last = last;
         }
+    }
+}
+
+impl From<(u16, u16)> for Window {
+    ghost from_gives = { λ window r. r ≡ bare window };
+
+    fn from((first, last): (u16, u16)) -> Window {
+        Window { first, last }
+    }
+}
+
+// Copies the windows of records to the front of a list, as many as it has room for. Its later entries stay.
+pub fn copy_windows<R: Record>(records: &[R], windows: &mut [Window])
+    ensures { windows.new ≡ copied (map R.span records.now) windows.old }
+{
+    let mut rest = records.iter();
+    for window in windows.iter_mut() {
+        let Some(each) = rest.next() else {
+            return;
+        };
+        *window = each.window().into();
     }
 }

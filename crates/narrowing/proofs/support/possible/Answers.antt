@@ -3,7 +3,7 @@ use Rattle.std.proofs.lemmas.List.{length-set}
 use Rattle.plans.specs.Plans.{Pair}
 use Rattle.records.specs.declared.record.bare.Window.{Window}
 use Rattle.narrowing.specs.Counting.{tabled}
-use Rattle.narrowing.specs.Support.{bare}
+use Rattle.records.specs.Bare.{bare}
 use Rattle.narrowing.proofs.Writes.{zeros}
 use Rattle.narrowing.proofs.Closing.{put_back, no_day, closed_proper, early_no, by_need}
 use Rattle.narrowing.proofs.support.possible.Goals as goal

@@ -8,7 +8,8 @@ use Rattle.records.specs.declared.record.bare.Window.{Window as Bare}
 use Rattle.records.specs.Bare.{span_of}
 use Rattle.records.specs.Checks.{checked}
 use Rattle.records.proofs.Checked.{passed}
-use Rattle.narrowing.proofs.Closing.{not_asked, asked, asked_place, front_spans}
+use Rattle.records.proofs.Copying.{front_spans}
+use Rattle.narrowing.proofs.Closing.{not_asked, asked, asked_within}
 use Rattle.narrowing.proofs.support.supports.Goals as goal
 
 pub returns-then-not-is_askable : goal.returns-then-not-is_askable
@@ -34,10 +35,10 @@ possible-requires g c =
     let long : length ws ≡ n = length-map records g.R.Record.span in
     let front : List Bare = take n c.copy_windows.new.work in
     let P = passed k pairs ws (length pairs) (sym c.in_ok-check.ensures) in
-    let spans : map span_of front ≡ ws = front_spans ws c.args.work.now c.copy_windows.new.work n long c.copy_windows.ensures in
+    let here = asked_within k (length pairs) n c.args.place c.args.day (length c.args.work.now) (sym c.is_askable.ensures ∙ c.if-not-is_askable.false) in
+    let spans : map span_of front ≡ ws = front_spans ws c.args.work.now c.copy_windows.new.work n long here.1 c.copy_windows.ensures in
     let size : length front ≡ n = sym (length-map front span_of) ∙ ap length spans ∙ long in
     let Q : List Window → Type 0 = Proper k pairs in
-    let here = asked_place k (length pairs) n c.args.place c.args.day (length c.args.work.now) (sym c.is_askable.ensures ∙ c.if-not-is_askable.false) in
     record {
       pairs_len_bound = (P.range.few_days, omega (arith, P.few_records));
       proper = subst Q (sym spans) P.proper;
@@ -56,7 +57,8 @@ returns g c =
     let work : List Bare = c.copy_windows.new.work in
     let ok : checked k pairs ws (length pairs) ≡ Ok tt = sym c.in_ok-check.ensures in
     let long : length ws ≡ n = length-map records g.R.Record.span in
-    let spans : map span_of (take n work) ≡ ws = front_spans ws c.args.work.now work n long c.copy_windows.ensures in
+    let here = asked_within k (length pairs) n i t (length c.args.work.now) (sym c.is_askable.ensures ∙ c.if-not-is_askable.false) in
+    let spans : map span_of (take n work) ≡ ws = front_spans ws c.args.work.now work n long here.1 c.copy_windows.ensures in
     let yes : c.possible.result ≡ supported k pairs ws i t = c.possible.ensures.answer ∙ ap (λ vs. supported k pairs vs i t) spans in
     record {
       answer = asked k pairs ws i t (length c.args.work.now) n ok long (sym c.is_askable.ensures ∙ c.if-not-is_askable.false) c.possible.result yes;
