@@ -9,7 +9,7 @@ use Rattle.plans.specs.Narrowing.{window, supported, Possible}
 use Rattle.plans.proofs.Exists.{plan_exists, mosts_kept_when}
 use Rattle.plans.proofs.Narrowing.{supported_means, possible_closed}
 use Rattle.records.specs.declared.record.bare.Window.{Window as Bare}
-use Rattle.records.specs.Bare.{span_of}
+use Rattle.records.specs.Bare.{span_of, bare}
 use Rattle.narrowing.specs.declared.support.SupportFault.TheVariants.{NoSuchQuestion}
 use Rattle.records.specs.Checks.{checked}
 use Rattle.narrowing.specs.Support.{askable, support_of}

@@ -1,19 +1,14 @@
 -- The windows on the way to the first plan.
-use Rattle.std.specs.Prelude.{◌≡◌, ℕ, List, length, replicate, Ok}
+use Rattle.std.specs.Prelude.{◌≡◌, ℕ, List, length, Ok}
 use Rattle.plans.specs.Plans.{Pair, Plan}
 use Rattle.plans.specs.Plans as plans
 use Rattle.plans.specs.Narrowing.{narrowed, Singles}
 use Rattle.records.specs.declared.record.bare.Window.{Window}
 use Rattle.records.specs.Checks.{checked}
-use Rattle.narrowing.specs.Support.{bare, copied}
 
 -- The first day of a bare window.
 abbrev pub first_of : Window → ℕ
 first_of w = w.first
-
--- Windows at the front of a list of 512.
-abbrev pub windows_at : List plans.Window → List Window
-windows_at ws = copied ws (replicate 512 (bare (0, 0)))
 
 -- The first i places are closed to a day each: the windows pass the checks, they are narrowed, and there is a plan.
 pub record Closed (k : ℕ) (pairs : List Pair) (i : ℕ) (ws : List plans.Window) : Type 0 where

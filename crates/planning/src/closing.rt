@@ -1,16 +1,16 @@
 // The first plan of windows: from the front on, each place is closed to its first day, and all are narrowed again.
-ghost use Rattle.std.specs.Prelude.{◌≡◌, suc, ◌<◌, map, length, Ok};
+ghost use Rattle.std.specs.Prelude.{◌≡◌, suc, ◌<◌, ◌≤◌, map, length, Ok};
 ghost use Rattle.std.specs.Option.{option_map};
 ghost use Rattle.plans.specs.Narrowing.{first_plan};
 ghost use Rattle.records.specs.Bare.{span_of};
 ghost use Rattle.records.specs.Checks.{checked};
-ghost use Rattle.planning.specs.Planned.{padded};
-ghost use Rattle.planning.specs.Closed.{Closed};
+ghost use Rattle.planning.specs.Planned.{as_days};
+ghost use Rattle.planning.specs.Closed.{Closed, first_of};
 
-use crate::windows::first_days;
+use crate::Days;
 use narrowing::narrow;
 use records::Window;
-use records::limits::{MOST_DAYS, MOST_RECORDS};
+use records::limits::MOST_DAYS;
 
 // Closes a place to its first day and narrows again, unless it has one day only.
 fn close(first: u16, pairs: &[(u16, u16)], windows: &mut [Window], place: usize)
@@ -29,22 +29,29 @@ fn close(first: u16, pairs: &[(u16, u16)], windows: &mut [Window], place: usize)
     };
     let mut marks = [0u8; MOST_DAYS];
     // Some plan has this day at the place, so there is no refusal.
-    let _ = narrow(first, pairs, windows, &mut marks);
+    narrow(first, pairs, windows, &mut marks).unwrap();
+}
+
+// The first day of each window.
+fn first_days(windows: &[Window]) -> Days
+    requires { length windows.now ≤ 512 }
+    ensures { result.items ≡ map first_of windows.now }
+{
+    let mut days = Days::new();
+    for window in windows {
+        days.push(window.first);
+    }
+    days
 }
 
 // The first plan of windows that have passed the checks.
-pub fn plan_windows(
-    first: u16,
-    pairs: &[(u16, u16)],
-    windows: &mut [Window],
-) -> Option<[u16; MOST_RECORDS]>
+pub fn plan_windows(first: u16, pairs: &[(u16, u16)], windows: &mut [Window]) -> Option<Days>
     requires { checked first pairs.now (map span_of windows.old) (length pairs.now) ≡ Ok tt }
-    ensures { result ≡ option_map padded (first_plan first pairs.now (map span_of windows.old)) }
+    ensures { result ≡ option_map as_days (first_plan first pairs.now (map span_of windows.old)) }
 {
     let mut marks = [0u8; MOST_DAYS];
-    if let Err(_) = narrow(first, pairs, windows, &mut marks) {
-        return None;
-    }
+    narrow(first, pairs, windows, &mut marks).ok()?;
+    // Each step narrows the whole list, so the places are counted.
     for place in 0..windows.len() {
         close(first, pairs, windows, place);
     }

@@ -3,6 +3,5 @@
 
 mod closing;
 mod planning;
-mod windows;
 
-pub use planning::first_plan;
+pub use planning::{Days, first_plan};

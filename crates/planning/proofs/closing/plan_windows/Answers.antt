@@ -5,17 +5,17 @@ use Rattle.plans.specs.Plans.{Pair}
 use Rattle.records.specs.declared.record.bare.Window.{Window}
 use Rattle.records.specs.Bare.{span_of}
 use Rattle.records.proofs.Checked.{passed}
-use Rattle.planning.specs.Planned.{padded}
-use Rattle.planning.proofs.Turns.{refused, begun, ended}
+use Rattle.planning.specs.Planned.{as_days}
+use Rattle.planning.proofs.Turns.{no_first, ok_from, begun, ended}
 use Rattle.planning.proofs.closing.plan_windows.Goals as goal
 
-pub returns-in-Err : goal.returns-in-Err
-returns-in-Err c =
+pub returns-in_err-ok : goal.returns-in_err-ok
+returns-in_err-ok c =
     let k : ℕ = c.args.first in
     let pairs : List Pair = c.args.pairs.now in
     let bs : List Window = c.args.windows.now in
     let few : length pairs ≤ 128 = (passed k pairs (map span_of bs) (length pairs) c.requires).range.few_days in
-    refused k pairs bs bs 128 _ c.narrow.result c.requires few c.narrow.ensures.answer c.in-Err.field-0 c.in-Err.is
+    c.from_residual.ensures ∙ no_first k pairs bs bs 128 _ c.narrow.result c.requires few c.narrow.ensures.answer c.in_err-ok.ensures.value
 
 pub loop-place-init : goal.loop-place-init
 loop-place-init c =
@@ -23,7 +23,7 @@ loop-place-init c =
     let pairs : List Pair = c.args.pairs.now in
     let bs : List Window = c.args.windows.now in
     let few : length pairs ≤ 128 = (passed k pairs (map span_of bs) (length pairs) c.requires).range.few_days in
-    let kept = begun k pairs bs c.narrow.new.records 128 _ c.narrow.result c.requires few c.narrow.ensures.answer c.in_default.is c.narrow.ensures.records in
+    let kept = begun k pairs bs c.narrow.new.records 128 _ c.narrow.result c.requires few c.narrow.ensures.answer (ok_from _ c.in_ok-ok.ensures.value) c.narrow.ensures.records in
     (kept.0, refl)
 
 pub first_days-requires : goal.first_days-requires
@@ -37,7 +37,7 @@ returns c =
     let pairs : List Pair = c.args.pairs.now in
     let bs : List Window = c.args.windows.now in
     let few : length pairs ≤ 128 = (passed k pairs (map span_of bs) (length pairs) c.requires).range.few_days in
-    let kept = begun k pairs bs c.narrow.new.records 128 _ c.narrow.result c.requires few c.narrow.ensures.answer c.in_default.is c.narrow.ensures.records in
+    let kept = begun k pairs bs c.narrow.new.records 128 _ c.narrow.result c.requires few c.narrow.ensures.answer (ok_from _ c.in_ok-ok.ensures.value) c.narrow.ensures.records in
     let size : c.loop-place.place ≡ length c.loop-place.windows = omega arith in
-    ap (λ ts. Some ts) c.first_days.ensures ∙ ended k pairs c.loop-place.place c.loop-place.windows c.loop-place.invariant.0 size
-    ∙ ap (option_map padded) (c.loop-place.invariant.1 ∙ kept.1)
+    ap (λ ts. Some (as_days ts)) c.first_days.ensures ∙ ended k pairs c.loop-place.place c.loop-place.windows c.loop-place.invariant.0 size
+    ∙ ap (option_map as_days) (c.loop-place.invariant.1 ∙ kept.1)

@@ -1,23 +1,15 @@
 use Rattle.std.proofs.Common.{◌≡◌, ℕ, List, map, length, replicate, Ok, sym, ap, ◌∙◌, subst, arith}
 use Rattle.std.specs.Option.{option_map}
-use Rattle.std.proofs.lemmas.List.{length-map, length-take-le}
+use Rattle.std.proofs.lemmas.List.{length-map, length-replicate}
 use Rattle.plans.specs.Plans.{Window, Pair}
 use Rattle.plans.specs.Narrowing.{first_plan}
 use Rattle.records.specs.Checks.{checked}
 use Rattle.records.proofs.Checked.{passed}
-use Rattle.narrowing.specs.Support.{bare}
-use Rattle.narrowing.proofs.Closing.{front_spans}
-use Rattle.planning.specs.Planned.{Planned, padded, past_checks, planned_of, PlannedMeans}
-use Rattle.planning.proofs.Answered.{full_length, planned_means}
+use Rattle.records.specs.Bare.{bare}
+use Rattle.records.proofs.Copying.{front_spans}
+use Rattle.planning.specs.Planned.{Planned, as_days, past_checks, planned_of, PlannedMeans}
+use Rattle.planning.proofs.Answered.{planned_means}
 use Rattle.planning.proofs.planning.first_plan.Goals as goal
-
-pub windows_of-windows-requires : goal.windows_of-windows-requires
-windows_of-windows-requires g c =
-    let pairs : List Pair = c.args.pairs.now in
-    let records = c.args.records.now in
-    let ws : List Window = map g.R.Record.span records in
-    let ok : checked c.args.first pairs ws (length pairs) ≡ Ok tt = sym c.in_ok-check.ensures in
-    omega (arith, (passed c.args.first pairs ws (length pairs) ok).few_records, length-map records g.R.Record.span)
 
 pub slice_bounds-windows-end : goal.slice_bounds-windows-end
 slice_bounds-windows-end g c =
@@ -25,21 +17,7 @@ slice_bounds-windows-end g c =
     let records = c.args.records.now in
     let ws : List Window = map g.R.Record.span records in
     let ok : checked c.args.first pairs ws (length pairs) ≡ Ok tt = sym c.in_ok-check.ensures in
-    let few = (passed c.args.first pairs ws (length pairs) ok).few_records in
-    let long = length-map records g.R.Record.span in
-    let size = full_length ws c.windows_of-windows.result few c.windows_of-windows.ensures in
-    omega arith
-
-pub slice_bounds-plan_windows-end : goal.slice_bounds-plan_windows-end
-slice_bounds-plan_windows-end g c =
-    let pairs : List Pair = c.args.pairs.now in
-    let records = c.args.records.now in
-    let ws : List Window = map g.R.Record.span records in
-    let ok : checked c.args.first pairs ws (length pairs) ≡ Ok tt = sym c.in_ok-check.ensures in
-    let few = (passed c.args.first pairs ws (length pairs) ok).few_records in
-    let long = length-map records g.R.Record.span in
-    let size = full_length ws c.windows_of-windows.result few c.windows_of-windows.ensures in
-    sym (length-take-le (length records) c.windows_of-windows.result (omega arith))
+    omega (arith, (passed c.args.first pairs ws (length pairs) ok).few_records, length-map records g.R.Record.span, c.copy_windows.auto.windows, length-replicate 512 (bare (0, 0)))
 
 pub plan_windows-requires : goal.plan_windows-requires
 plan_windows-requires g c =
@@ -48,7 +26,8 @@ plan_windows-requires g c =
     let records = c.args.records.now in
     let ws : List Window = map g.R.Record.span records in
     let ok : checked c.args.first pairs ws (length pairs) ≡ Ok tt = sym c.in_ok-check.ensures in
-    let spans = front_spans ws (replicate 512 (bare (0, 0))) c.windows_of-windows.result (length records) (length-map records g.R.Record.span) c.windows_of-windows.ensures in
+    let few = (passed k pairs ws (length pairs) ok).few_records in
+    let spans = front_spans ws (replicate 512 (bare (0, 0))) c.copy_windows.new.windows (length records) (length-map records g.R.Record.span) (omega (arith, few, length-map records g.R.Record.span, length-replicate 512 (bare (0, 0)))) c.copy_windows.ensures in
     ap (λ vs. checked k pairs vs (length pairs)) spans ∙ ok
 
 pub returns : goal.returns
@@ -58,9 +37,10 @@ returns g c =
     let records = c.args.records.now in
     let ws : List Window = map g.R.Record.span records in
     let ok : checked c.args.first pairs ws (length pairs) ≡ Ok tt = sym c.in_ok-check.ensures in
-    let spans = front_spans ws (replicate 512 (bare (0, 0))) c.windows_of-windows.result (length records) (length-map records g.R.Record.span) c.windows_of-windows.ensures in
+    let few = (passed k pairs ws (length pairs) ok).few_records in
+    let spans = front_spans ws (replicate 512 (bare (0, 0))) c.copy_windows.new.windows (length records) (length-map records g.R.Record.span) (omega (arith, few, length-map records g.R.Record.span, length-replicate 512 (bare (0, 0)))) c.copy_windows.ensures in
     let told : ◌≡◌ {A = Planned} (Ok c.plan_windows.result) (planned_of k pairs ws) =
-    ap (λ plan. Ok plan) (c.plan_windows.ensures ∙ ap (λ vs. option_map padded (first_plan k pairs vs)) spans)
+    ap (λ plan. Ok plan) (c.plan_windows.ensures ∙ ap (λ vs. option_map as_days (first_plan k pairs vs)) spans)
     ∙ ap (λ o. past_checks o (first_plan k pairs ws)) (sym ok) in
     let P : Planned → Type 0 = PlannedMeans k pairs ws in
     record { answer = told; means = subst P (sym told) (planned_means k pairs ws) }

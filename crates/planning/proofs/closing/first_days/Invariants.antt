@@ -1,0 +1,6 @@
+use Rattle.std.proofs.Common.{◌≡◌, map, take}
+use Rattle.planning.specs.Closed.{first_of}
+use Rattle.planning.proofs.closing.first_days.Given as goal
+
+abbrev pub invariant-loop-window : goal.invariant-loop-window
+invariant-loop-window l = l.days.items ≡ map first_of (take l.window-index l.windows)
