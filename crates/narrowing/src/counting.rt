@@ -5,7 +5,7 @@ ghost use Rattle.plans.specs.Needs.{Within};
 ghost use Rattle.narrowing.specs.Counting.{Blank, Tallied, Counted};
 
 use records::Record;
-use records::limits::MOST_DAYS;
+use records::limits::{CELLS, MOST_DAYS};
 
 // The row of a last day, as far as the run of that day alone.
 pub(crate) fn row(table: &[u16], last: usize) -> &[u16]
@@ -18,10 +18,9 @@ pub(crate) fn row(table: &[u16], last: usize) -> &[u16]
 }
 
 // Counts the windows by their first and last day.
-fn tally<R: Record>(day: u16, records: &[R], table: &mut [u16])
+fn tally<R: Record>(day: u16, records: &[R], table: &mut [u16; CELLS])
     requires records_len_bound { length records.now ≤ 512 }
     requires within { Within day 128 (map R.span records.now) }
-    requires table_len { length table.old ≡ 16384 }
     requires blank { Blank table.old }
     ensures { Tallied day (map R.span records.now) table.new }
 {
@@ -48,11 +47,10 @@ fn add_row(row: &mut [u16], sums: &mut [u16])
 }
 
 // Each cell becomes how many windows lie inside the run from its first to its last day.
-pub(crate) fn count_runs<R: Record>(day: u16, records: &[R], days: usize, table: &mut [u16])
+pub(crate) fn count_runs<R: Record>(day: u16, records: &[R], days: usize, table: &mut [u16; CELLS])
     requires records_len_bound { length records.now ≤ 512 }
     requires days_bound { days ≤ 128 }
     requires within { Within day days (map R.span records.now) }
-    requires table_len { length table.old ≡ 16384 }
     requires blank { Blank table.old }
     ensures { Counted day days (map R.span records.now) table.new }
 {

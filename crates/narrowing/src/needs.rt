@@ -3,6 +3,7 @@ ghost use Rattle.std.specs.Prelude.{◌≡◌, ℕ, ◌*◌, ◌<◌, ◌≤◌,
 ghost use Rattle.narrowing.specs.Counting.{Reach, NeedsOf};
 
 use crate::counting::row;
+use records::limits::{CELLS, EDGES};
 
 // The largest of the start and of each need with its cell.
 fn reach(row: &[u16], needs: &[u32], start: u32) -> u32
@@ -19,10 +20,8 @@ fn reach(row: &[u16], needs: &[u32], start: u32) -> u32
 }
 
 // What the days before each day need: the day's fewest more, or what a run that ends there holds.
-pub(crate) fn needs_left(pairs: &[(u16, u16)], table: &[u16], left: &mut [u32])
+pub(crate) fn needs_left(pairs: &[(u16, u16)], table: &[u16; CELLS], left: &mut [u32; EDGES])
     requires pairs_len_bound { length pairs.now ≤ 128 }
-    requires table_len { length table.now ≡ 16384 }
-    requires left_len { length left.old ≡ 129 }
     ensures needs { NeedsOf pairs.now table.now left.new }
     ensures small { (v : ℕ) → v ≤ length pairs.now → slice_index left.new v ≤ v * 65535 }
 {

@@ -4,11 +4,11 @@ ghost use Rattle.plans.specs.Sets.{run_marks};
 ghost use Rattle.narrowing.specs.Counting.{Summed, Fits, Found};
 
 use crate::counting::row;
+use records::limits::{CELLS, EDGES};
 
 // The sums of the mosts before each day.
-pub(crate) fn sum_mosts(pairs: &[(u16, u16)], before: &mut [u32])
+pub(crate) fn sum_mosts(pairs: &[(u16, u16)], before: &mut [u32; EDGES])
     requires pairs_len_bound { length pairs.now ≤ 128 }
-    requires before_len { length before.old ≡ 129 }
     ensures { Summed pairs.now before.new }
 {
     before[0] = 0;
@@ -34,12 +34,10 @@ fn last_over(row: &[u16], before: &[u32], top: u32) -> Option<usize>
 // The overfull run that 20 names, as its first and its last day.
 pub(crate) fn overfull(
     pairs: &[(u16, u16)],
-    table: &[u16],
-    before: &[u32],
+    table: &[u16; CELLS],
+    before: &[u32; EDGES],
 ) -> Option<(usize, usize)>
     requires pairs_len_bound { length pairs.now ≤ 128 }
-    requires table_len { length table.now ≡ 16384 }
-    requires before_len { length before.now ≡ 129 }
     requires summed { Summed pairs.now before.now }
     ensures { Found pairs.now table.now result }
 {

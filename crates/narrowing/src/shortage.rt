@@ -7,7 +7,7 @@ ghost use Rattle.narrowing.specs.Counting.{tabled, NeedsOf, Shown};
 
 use crate::counting::row;
 use records::Record;
-use records::limits::EDGES;
+use records::limits::{CELLS, EDGES};
 
 // The first day whose need with its cell comes to the goal, where one does.
 fn find_run(row: &[u16], left: &[u32], goal: u32) -> usize
@@ -26,9 +26,13 @@ fn find_run(row: &[u16], left: &[u32], goal: u32) -> usize
 }
 
 // Goes back from the last day by what makes each need so large, and marks the days whose fewest does.
-pub(crate) fn mark_shortage(pairs: &[(u16, u16)], table: &[u16], left: &[u32], marks: &mut [u8])
+pub(crate) fn mark_shortage(
+    pairs: &[(u16, u16)],
+    table: &[u16; CELLS],
+    left: &[u32; EDGES],
+    marks: &mut [u8],
+)
     requires pairs_len_bound { length pairs.now ≤ 128 }
-    requires table_len { (length table.now ≡ 16384) × (length left.now ≡ 129) }
     requires marks_len { length marks.old ≡ length pairs.now }
     requires needs_of { NeedsOf pairs.now table.now left.now }
     requires left_bound { (v : ℕ) → v ≤ length pairs.now → slice_index left.now v ≤ v * 65535 }
@@ -49,9 +53,8 @@ pub(crate) fn mark_shortage(pairs: &[(u16, u16)], table: &[u16], left: &[u32], m
 }
 
 // How many marks there are before each day.
-fn sum_marks(marks: &[u8], before: &mut [u16])
+fn sum_marks(marks: &[u8], before: &mut [u16; EDGES])
     requires marks_len_bound { length marks.now ≤ 128 }
-    requires before_len { length before.old ≡ 129 }
     ensures { (v : ℕ) → v ≤ length marks.now → slice_index before.new v ≡ total (tabled marks.now) v }
 {
     before[0] = 0;

@@ -80,10 +80,9 @@ impl Drop for Closed<'_> {
 
 impl Closed<'_> {
     // Counts the windows inside each run of days, as they now are.
-    fn count(&self, first: u16, days: usize, table: &mut [u16])
+    fn count(&self, first: u16, days: usize, table: &mut [u16; CELLS])
         requires windows_len_bound { (length self.now.windows.now ≤ 512) × (days ≤ 128) }
         requires within { Within first days (map span_of self.now.windows.now) }
-        requires table_len { length table.old ≡ 16384 }
         requires blank { Blank table.old }
         ensures { Counted first days (map span_of self.entry.now.windows.now) table.new }
     {

@@ -30,7 +30,6 @@ tally-requires g c =
     record {
       records_len_bound = c.requires.records_len_bound;
       within = within_more c.args.day c.args.days 128 (map g.R.Record.span c.args.records.now) c.requires.days_bound c.requires.within;
-      table_len = c.requires.table_len;
       blank = c.requires.blank;
     }
 
@@ -49,7 +48,7 @@ add_row-requires g c =
     let xs = c.loop-last.table in
     let ss = c.loop-last.sums in
     let ws = map g.R.Record.span c.args.records.now in
-    let len : length xs ≡ 16384 = c.loop-last.auto.table ∙ c.tally.auto.table ∙ c.requires.table_len in
+    let len : length xs ≡ 16384 = omega arith in
     let n = part_length xs b len (omega arith) in
     let m = front_length ss b 128 c.loop-last.invariant.0 (omega arith) in record {
       row_len = n ∙ sym m;
@@ -69,7 +68,7 @@ loop-last-preserved g c =
     let row : List ℕ = c.add_row.new.row in
     let sums : List ℕ = c.add_row.new.sums in
     let lt : b < 128 = omega arith in
-    let len : length xs ≡ 16384 = c.loop-last.auto.table ∙ c.tally.auto.table ∙ c.requires.table_len in
+    let len : length xs ≡ 16384 = omega arith in
     let n = part_length xs b len lt in
     let m = front_length ss b 128 c.loop-last.invariant.0 lt in
     let rl : length row ≡ b + 1 = c.add_row.auto.row ∙ n in

@@ -1,4 +1,4 @@
-use Rattle.std.proofs.Common.{◌≡◌, ℕ, ◌+◌, ◌<◌, ◌≤◌, ◌++◌, map, length, take, drop, refl, ap, ◌∙◌, arith}
+use Rattle.std.proofs.Common.{◌≡◌, ℕ, ◌+◌, ◌<◌, ◌≤◌, ◌++◌, map, length, take, drop, ap, ◌∙◌, arith}
 use Rattle.std.proofs.lemmas.List.{length-map, length-take-le}
 use Rattle.plans.specs.Plans.{most}
 use Rattle.plans.specs.Sets.{run_marks}
@@ -13,7 +13,6 @@ count_runs-requires g c = record {
   records_len_bound = c.requires.records_len_bound;
   days_bound = c.requires.pairs_len_bound;
   within = c.requires.proper.within;
-  table_len = refl;
   blank = zeros 16384;
 }
 

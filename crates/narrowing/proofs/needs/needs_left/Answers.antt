@@ -1,5 +1,5 @@
 use Rattle.std.proofs.Common.{◌≡◌, ℕ, suc, ◌+◌, ◌*◌, ◌≤◌, ◌⊎◌, List, length, get_or, set, sym, ap, ◌∙◌, subst, inl, inr, add-one, arith}
-use Rattle.std.proofs.lemmas.List.{get_or-set_same, get_or-set_other, length-set}
+use Rattle.std.proofs.lemmas.List.{get_or-set_same, get_or-set_other}
 use Rattle.std.proofs.lemmas.Bool.{cases_eq}
 use Rattle.plans.specs.Plans.{Window, fewest}
 use Rattle.plans.specs.Needs.{forced, NeedLeft}
@@ -13,7 +13,7 @@ pub loop-v-init : goal.loop-v-init
 loop-v-init c =
     let xs = c.args.left.now in
     let d : ℕ = length c.args.pairs.now in
-    let z : get_or (set xs 0 0) 0 0 ≡ 0 = get_or-set_same xs 0 0 0 (omega (arith, c.requires.left_len)) in (
+    let z : get_or (set xs 0 0) 0 0 ≡ 0 = get_or-set_same xs 0 0 0 (omega arith) in (
       (λ k ws C. left_none k (fewest c.args.pairs.now) ws (λ v. get_or (set xs 0 0) v 0) (λ p. forced_none k d p ws C.within) z),
       λ j h. let e : j ≡ 0 = omega arith in rw e (omega (arith, z)),
     )
@@ -23,7 +23,7 @@ reach-requires c =
     let v : ℕ = c.loop-v.v in
     let ys = c.loop-v.left in
     let n = c.row.ensures.long in
-    let m = front_length ys v 129 (c.loop-v.auto.left ∙ length-set c.args.left.now 0 0 ∙ c.requires.left_len) (omega arith) in
+    let m = front_length ys v 129 (omega arith) (omega arith) in
     record {
       row_len = n ∙ sym m;
       small = λ p h. omega (arith, front_at ys v p (omega arith), c.loop-v.invariant.1 p (omega arith));
@@ -39,7 +39,7 @@ loop-v-preserved c =
     let x : ℕ = c.reach.result in
     let r = c.reach.ensures in
     let n = c.row.ensures.long in
-    let len : length ys ≡ 129 = c.loop-v.auto.left ∙ length-set c.args.left.now 0 0 ∙ c.requires.left_len in
+    let len : length ys ≡ 129 = omega arith in
     let M : ℕ → ℕ = λ v. get_or ys v 0 in
     let M' : ℕ → ℕ = λ v. get_or (set ys (b + 1) x) v 0 in
     let at : get_or (set ys (b + 1) x) (b + 1) 0 ≡ x = get_or-set_same ys (b + 1) x 0 (omega arith) in
@@ -65,7 +65,7 @@ loop-v-preserved c =
                 arith,
                 q.2,
                 c.row.ensures.cells q.0 (omega (arith, q.1)),
-                c.type_inv.table (b * 128 + q.0),
+                c.fits-table (b * 128 + q.0),
                 front_at ys b q.0 (omega (arith, q.1)),
                 c.loop-v.invariant.1 q.0 (omega (arith, q.1)),
               )

@@ -13,7 +13,7 @@ last_over-requires c =
     let ys = c.args.before.now in
     let us : ℕ → ℕ = most c.args.pairs.now in
     let n = c.row.ensures.long in
-    let m = front_length ys b 129 c.requires.before_len (omega arith) in record {
+    let m = front_length ys b 129 (omega arith) (omega arith) in record {
       row_len = n ∙ sym m;
       before_bound = λ p h. omega (arith, front_at ys b p (omega arith), c.requires.summed p (omega arith), c.requires.summed (b + 1) (omega arith), total_grows us p (b + 1) (omega arith));
     }

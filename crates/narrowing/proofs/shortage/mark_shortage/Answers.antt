@@ -44,7 +44,7 @@ find_run-v-requires c =
     let u : ℕ = c.loop-v.v - 1 in
     let top : c.loop-v.v ≤ length c.args.pairs.now = c.loop-v.invariant.0 in
     let n = c.row.ensures.long in
-    let m = front_length c.args.left.now u 129 c.requires.table_len.1 (omega (arith, c.requires.pairs_len_bound)) in
+    let m = front_length c.args.left.now u 129 (omega arith) (omega (arith, c.requires.pairs_len_bound)) in
     record {
       row_len = n ∙ sym m;
       row_nonzero = omega arith;

@@ -24,7 +24,6 @@ count-requires c =
     let n = length-set bs i (bare (t, t)) in record {
       windows_len_bound = (omega (arith, c.requires.pairs_len_bound), c.requires.pairs_len_bound.0);
       within = (closed_proper k pairs bs i t c.requires.proper c.requires.place_in_bounds (omega arith) (omega arith)).within;
-      table_len = refl;
       blank = zeros 16384;
     }
 
