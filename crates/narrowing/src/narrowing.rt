@@ -19,8 +19,7 @@ use records::limits::{CELLS, EDGES, MOST_DAYS};
 use records::{NarrowingFault, Record};
 
 // Puts each record into the window that the table gives for its own.
-fn put_windows<R: Record>(day: u16, table: &[u8], records: &mut [R])
-    requires table_len { length table.now ≡ 16384 }
+fn put_windows<R: Record>(day: u16, table: &[u8; CELLS], records: &mut [R])
     requires within { Within day 128 (map R.span records.old) }
     requires shorter { Shorter day table.now (map R.span records.old) }
     ensures { records.new ≡ placed R.put (map (found day table.now) (map R.span records.old)) records.old }
@@ -40,13 +39,12 @@ fn put_windows<R: Record>(day: u16, table: &[u8], records: &mut [R])
 fn narrow_counted<R: Record>(
     first: u16,
     pairs: &[(u16, u16)],
-    table: &[u16],
-    before: &[u32],
-    left: &[u32],
+    table: &[u16; CELLS],
+    before: &[u32; EDGES],
+    left: &[u32; EDGES],
     records: &mut [R],
 )
     requires pairs_len_bound { (length pairs.now ≤ 128) × (length records.old ≤ 512) }
-    requires table_len { (length table.now ≡ 16384) × (length before.now ≡ 129) × (length left.now ≡ 129) }
     requires proper { Proper first pairs.now (map R.span records.old) }
     requires planned { (ts : List ℕ) × Plan first pairs.now (map R.span records.old) ts }
     requires counted { Counted first (length pairs.now) (map R.span records.old) table.now }

@@ -21,7 +21,6 @@ needs_left-requires g c = record {
 pub narrow_counted-requires : goal.narrow_counted-requires
 narrow_counted-requires g c = record {
   pairs_len_bound = c.requires.pairs_len_bound;
-  table_len = (c.count_runs.auto.table, c.sum_mosts.auto.before, c.needs_left.auto.left);
   proper = c.requires.proper;
   planned = c.requires.planned;
   counted = c.count_runs.ensures;

@@ -27,7 +27,7 @@ bounds-table-b g c =
     let k : ℕ = c.args.day in
     let table : List ℕ = c.args.table.now in
     let h = at_hand m.span (moved m.put m.span k table) k table c.args.records.now c.loop-each.records c.loop-each.each-index _ _ c.requires.within c.requires.shorter c.loop-each-test.true c.loop-each.invariant c.each-item.is c.window-first.ensures in
-    omega (arith, h.begins, h.ordered, h.ends, c.requires.table_len)
+    omega (arith, h.begins, h.ordered, h.ends)
 
 pub overflow_add-day : goal.overflow_add-day
 overflow_add-day g c =
@@ -43,7 +43,7 @@ bounds-table-a g c =
     let k : ℕ = c.args.day in
     let table : List ℕ = c.args.table.now in
     let h = at_hand m.span (moved m.put m.span k table) k table c.args.records.now c.loop-each.records c.loop-each.each-index _ _ c.requires.within c.requires.shorter c.loop-each-test.true c.loop-each.invariant c.each-item.is c.window-first.ensures in
-    omega (arith, h.begins, h.ordered, h.ends, c.requires.table_len)
+    omega (arith, h.begins, h.ordered, h.ends)
 
 pub overflow_add-day-in-loop-each : goal.overflow_add-day-in-loop-each
 overflow_add-day-in-loop-each g c =
