@@ -3,7 +3,7 @@
 ghost use Rattle.std.specs.Prelude.{◌≡◌, ℕ, ◌+◌, ◌*◌, ◌<◌, ◌≤◌, length, if◌then◌else◌, nat_le, nat_lt, slice_index};
 ghost use Rattle.narrowing.specs.Scanning.{Lows, Highs};
 
-use records::limits::MOST_DAYS;
+use records::limits::{CELLS, EDGES, MOST_DAYS};
 
 // The windows end one day later: where a tight run that has the lowest day ends just before that day, it is the lowest.
 fn low_step(last: u8, early: u16, low: &mut [u8], row: &mut [u8])
@@ -36,10 +36,8 @@ fn high_step(first: u8, late: u16, high: &mut [u8], row: &mut [u8])
 }
 
 // Writes the lowest days.
-pub(crate) fn lows(days: usize, earliest: &[u16], table: &mut [u8])
-    requires days_bound { days ≤ 128 }
-    requires earliest_len { length earliest.now ≡ 129 }
-    requires table_len { length table.old ≡ 16384 }
+pub(crate) fn lows(days: usize, earliest: &[u16; EDGES], table: &mut [u8; CELLS])
+    requires { days ≤ 128 }
     ensures { Lows days earliest.now table.new }
 {
     let mut low = [0u8; MOST_DAYS];
@@ -55,10 +53,8 @@ pub(crate) fn lows(days: usize, earliest: &[u16], table: &mut [u8])
 }
 
 // Writes the highest days; before the diagonal the table stays.
-pub(crate) fn highs(days: usize, latest: &[u16], table: &mut [u8])
-    requires days_bound { days ≤ 128 }
-    requires latest_len { length latest.now ≡ 129 }
-    requires table_len { length table.old ≡ 16384 }
+pub(crate) fn highs(days: usize, latest: &[u16; EDGES], table: &mut [u8; CELLS])
+    requires { days ≤ 128 }
     ensures above { Highs days latest.now table.new }
     ensures below { (a b : ℕ) → a < b → b < days → slice_index table.new (b * 128 + a) ≡ slice_index table.old (b * 128 + a) }
 {

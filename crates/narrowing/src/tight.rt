@@ -5,6 +5,7 @@ ghost use Rattle.narrowing.specs.Counting.{Blank, Summed};
 ghost use Rattle.narrowing.specs.Scanning.{tight?, NeedsMeet, EarliestOf, LatestOf};
 
 use crate::counting::row;
+use records::limits::{CELLS, EDGES};
 
 // What a run holds is all its room, or comes with the need before it to all that the days after leave.
 fn is_tight(held: u32, room: u32, need: u32, rest: u32) -> bool
@@ -107,17 +108,14 @@ fn tight_row(
 pub(crate) fn tight_ends(
     pairs: &[(u16, u16)],
     windows: u32,
-    table: &[u16],
-    before: &[u32],
-    left: &[u32],
-    right: &[u32],
-    earliest: &mut [u16],
-    latest: &mut [u16],
+    table: &[u16; CELLS],
+    before: &[u32; EDGES],
+    left: &[u32; EDGES],
+    right: &[u32; EDGES],
+    earliest: &mut [u16; EDGES],
+    latest: &mut [u16; EDGES],
 )
     requires pairs_len_bound { (length pairs.now ≤ 128) × (windows ≤ 512) }
-    requires table_len { length table.now ≡ 16384 }
-    requires before_len { (length before.now ≡ 129) × (length left.now ≡ 129) × (length right.now ≡ 129) }
-    requires earliest_len { (length earliest.old ≡ 129) × (length latest.old ≡ 129) }
     requires summed { Summed pairs.now before.now }
     requires needs_meet { NeedsMeet (length pairs.now) left.now right.now windows }
     requires blank { Blank latest.old }

@@ -20,7 +20,7 @@ lift-requires c =
     let v : ℕ = c.loop-v.v - 1 in
     let ys = c.loop-v.right in
     let n = c.row.ensures.long in
-    let m = front_length ys v 129 (c.loop-v.auto.right ∙ c.requires.right_len) (omega arith) in
+    let m = front_length ys v 129 (omega arith) (omega arith) in
     record {
       row_len = n ∙ sym m;
       after_bound = omega (arith, c.loop-v.invariant.1 (v + 1) (omega arith));
@@ -35,11 +35,11 @@ loop-v-preserved c =
     let zs : List ℕ = c.lift.new.needs in
     let ls : ℕ → ℕ = fewest c.args.pairs.now in
     let os : List ℕ = zs ++ drop (b + 1) ys in
-    let x : ℕ = c.larger.result in
+    let x : ℕ = c.max.result in
     let N : ℕ → ℕ = tabled ys in
     let N' : ℕ → ℕ = tabled (set os b x) in
     let n = c.row.ensures.long in
-    let yl : length ys ≡ 129 = c.loop-v.auto.right ∙ c.requires.right_len in
+    let yl : length ys ≡ 129 = omega arith in
     let m = front_length ys b 129 yl (omega arith) in
     let zl : length zs ≡ b + 1 = c.lift.auto.needs ∙ m in
     let ol : length os ≡ 129 = over_length ys zs b 129 yl (omega arith) zl in
@@ -51,7 +51,7 @@ loop-v-preserved c =
     omega (arith, over_low ys zs b p zl h, f, front_at ys b p h, c.row.ensures.cells p h) in
     let low : (p : ℕ) → p < b → N' p ≡ max (N p) (cell p + N (suc b)) = λ p h. get_or-set_other os b p x 0 (omega arith) ∙ lifted p (omega arith) in
     let top : N' b ≡ x = get_or-set_same os b x 0 (omega arith) in
-    let here : N' b ≡ max (max (N b) (cell b + N (suc b))) (ls b + N (suc b)) = omega (arith, top, c.larger.ensures, lifted b (omega arith)) in (
+    let here : N' b ≡ max (max (N b) (cell b + N (suc b))) (ls b + N (suc b)) = omega (arith, top, c.max.ensures, lifted b (omega arith)) in (
       (λ k ws C.
           let is : (p : ℕ) → p ≤ b → cell p ≡ forced k ws p (suc b) = λ p h. C.cells b (omega arith) p h in
           right_more k d b c.loop-v.v ls ws N N' (omega arith) (omega arith) (c.loop-v.invariant.0 k ws C) high
@@ -60,8 +60,8 @@ loop-v-preserved c =
       λ j h. elim (cases_lt b j) [
         | inl l ↦ omega (arith, high j l h, c.loop-v.invariant.1 j h)
         | inr g ↦ elim (cases_eq j b) [
-          | inl e ↦ rw e (omega (arith, here, c.type_inv.table (b * 128 + b), c.loop-v.invariant.1 b (omega arith), c.loop-v.invariant.1 (b + 1) (omega arith)))
-          | inr ne ↦ omega (arith, low j (omega arith), c.type_inv.table (b * 128 + j), c.loop-v.invariant.1 j h, c.loop-v.invariant.1 (b + 1) (omega arith))
+          | inl e ↦ rw e (omega (arith, here, c.fits-table (b * 128 + b), c.loop-v.invariant.1 b (omega arith), c.loop-v.invariant.1 (b + 1) (omega arith)))
+          | inr ne ↦ omega (arith, low j (omega arith), c.fits-table (b * 128 + j), c.loop-v.invariant.1 j h, c.loop-v.invariant.1 (b + 1) (omega arith))
         ]
       ],
     )

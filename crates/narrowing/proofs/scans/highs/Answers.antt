@@ -12,8 +12,8 @@ high_step-requires c =
     let a : ℕ = c.loop-a.a - 1 in
     let d : ℕ = c.args.days in
     let hs = c.loop-a.high in
-    let n = part_long c.loop-a.table (a * 128 + a) (a * 128 + d) (omega arith) (omega (arith, c.loop-a.auto.table, c.requires.table_len, c.requires.days_bound)) in
-    let m = part_long (set hs a a) a d (omega arith) (omega (arith, length-set hs a a, c.loop-a.invariant.0, c.requires.days_bound)) in
+    let n = part_long c.loop-a.table (a * 128 + a) (a * 128 + d) (omega arith) (omega arith) in
+    let m = part_long (set hs a a) a d (omega arith) (omega (arith, length-set hs a a, c.loop-a.invariant.0, c.requires)) in
     omega arith
 
 pub loop-a-preserved : goal.loop-a-preserved
@@ -30,8 +30,8 @@ loop-a-preserved c =
     let old : List ℕ = take (d - a) (drop a hs) in
     let new : List ℕ = c.high_step.new.high in
     let row : List ℕ = c.high_step.new.row in
-    let len : length xs ≡ 16384 = c.loop-a.auto.table ∙ c.requires.table_len in
-    let few : d ≤ 128 = c.requires.days_bound in
+    let len : length xs ≡ 16384 = omega arith in
+    let few : d ≤ 128 = c.requires in
     let lt : a < d = omega arith in
     let ol : length hs ≡ 128 = length-set os a a ∙ c.loop-a.invariant.0 in
     let n = part_long xs r s (omega arith) (omega arith) in

@@ -11,7 +11,7 @@ pub low_step-requires : goal.low_step-requires
 low_step-requires c =
     let b : ℕ = c.loop-b.b in
     let ls = c.loop-b.low in
-    let n = part_length c.loop-b.table b (c.loop-b.auto.table ∙ c.requires.table_len) (omega arith) in
+    let n = part_length c.loop-b.table b (omega arith) (omega arith) in
     let m = front_length (set ls b b) b 128 (length-set ls b b ∙ c.loop-b.invariant.0) (omega arith) in
     m ∙ sym n
 
@@ -25,7 +25,7 @@ loop-b-preserved c =
     let new : List ℕ = c.low_step.new.low in
     let row : List ℕ = c.low_step.new.row in
     let lt : b < 128 = omega arith in
-    let len : length xs ≡ 16384 = c.loop-b.auto.table ∙ c.requires.table_len in
+    let len : length xs ≡ 16384 = omega arith in
     let ol : length ls ≡ 128 = length-set os b b ∙ c.loop-b.invariant.0 in
     let n = part_length xs b len lt in
     let m = front_length ls b 128 ol lt in

@@ -1,5 +1,5 @@
 use Rattle.std.proofs.Common.{◌≡◌, ℕ, suc, ◌+◌, ◌-◌, ◌<◌, ◌≤◌, Bool, true, false, cond, List, ◌++◌, length, get_or, take, drop, set, sym, ap, ◌∙◌, subst, inl, inr, add-one, arith}
-use Rattle.std.proofs.lemmas.List.{get_or-set_same, get_or-set_other}
+use Rattle.std.proofs.lemmas.List.{get_or-set_same, get_or-set_other, length-set}
 use Rattle.std.proofs.lemmas.Bool.{cases_lt, both_ways}
 use Rattle.plans.specs.Plans.{Window, most}
 use Rattle.plans.specs.Runs.{total}
@@ -7,7 +7,7 @@ use Rattle.plans.specs.Tight.{Tight}
 use Rattle.plans.proofs.Windows.{total_grows}
 use Rattle.narrowing.specs.Counting.{Counted, tabled}
 use Rattle.narrowing.specs.Scanning.{tight?}
-use Rattle.narrowing.proofs.Parts.{front_length, front_at, over_low, over_high}
+use Rattle.narrowing.proofs.Parts.{front_length, front_at, over_length, over_low, over_high}
 use Rattle.narrowing.proofs.TightEnds.{tells_tight, EarlyTo, early_more, early_all, LateTo, late_more, late_all}
 use Rattle.narrowing.proofs.tight.tight_ends.Goals as goal
 
@@ -21,9 +21,9 @@ tight_row-requires c =
     let ys = c.args.before.now in
     let zs = c.args.left.now in
     let n = c.row.ensures.long in
-    let my = front_length ys b 129 c.requires.before_len.0 (omega arith) in
-    let mz = front_length zs b 129 c.requires.before_len.1 (omega arith) in
-    let ml = front_length c.loop-v.latest b 129 (c.loop-v.auto.latest ∙ c.requires.earliest_len.1) (omega arith) in record {
+    let my = front_length ys b 129 (omega arith) (omega arith) in
+    let mz = front_length zs b 129 (omega arith) (omega arith) in
+    let ml = front_length c.loop-v.latest b 129 c.loop-v.invariant.3 (omega arith) in record {
       row_len = (n ∙ sym my, n ∙ sym mz, n ∙ sym ml, n);
       before_bound = (λ p h. omega (arith, front_at ys b p (omega arith), c.requires.summed p (omega arith), c.requires.summed (b + 1) (omega arith), total_grows us p (b + 1) (omega arith)));
       left_bound = (λ p h. omega (arith, front_at zs b p (omega arith), c.requires.needs_meet p (omega arith), c.requires.pairs_len_bound));
@@ -38,6 +38,8 @@ loop-v-init c = (
     record { latest = λ p q h l t. absurd (omega arith); tight = λ p h. absurd (omega (arith, c.requires.blank p)) },
   )),
   λ p. omega (arith, c.requires.blank p),
+  omega arith,
+  omega arith,
 )
 
 pub loop-v-preserved : goal.loop-v-preserved
@@ -58,9 +60,9 @@ loop-v-preserved c =
     let rest : ℕ = c.args.windows - get_or rs (b + 1) 0 in
     let row = c.row.result.now in
     let n = c.row.ensures.long in
-    let ml = front_length ls b 129 (c.loop-v.auto.latest ∙ c.requires.earliest_len.1) (omega arith) in
+    let ml : length (take (b + 1) ls) ≡ b + 1 = front_length ls b 129 c.loop-v.invariant.3 (omega arith) in
     let nl : length new ≡ b + 1 = c.tight_row.auto.latest ∙ ml in
-    let el : length es ≡ 129 = c.loop-v.auto.earliest ∙ c.requires.earliest_len.0 in
+    let el : length es ≡ 129 = c.loop-v.invariant.2 in
     let t : ℕ → Bool = tight? row (take (b + 1) ys) (take (b + 1) zs) top rest in
     let tot : total us (b + 1) ≡ total us (suc b) = ap (total us) (add-one b) in
     let nx : get_or rs (b + 1) 0 ≡ N (suc b) = ap N (add-one b) in
@@ -95,6 +97,8 @@ loop-v-preserved c =
         | inl i ↦ omega (arith, kept p i, c.loop-v.invariant.1 p)
         | inr i ↦ omega (arith, wrote p i, either (t p) (suc b) (tabled ls p) (omega (arith, c.loop-v.invariant.1 p)))
       ],
+      length-set es (b + 1) x ∙ el,
+      over_length ls new b 129 c.loop-v.invariant.3 (omega arith) nl,
     )
   where
     either : (t : Bool) (e x : ℕ) → x ≤ e → cond t e x ≤ e
