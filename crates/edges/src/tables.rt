@@ -69,15 +69,15 @@ fn orders_are_narrowed_as_windows(rt: HostRuntime) -> Result<(), Fail> {
 fn a_table_holds_512_orders(rt: HostRuntime) {
     let mut table = Table::empty();
     for number in 0..512 {
-        assert!(rt; table.enter(number, window(3, 4)));
+        assert_eq!(rt; table.enter(number, window(3, 4)), Some(number as usize));
     }
     assert_eq!(rt; table.len(), 512);
-    assert!(rt; !table.enter(512, window(3, 4)));
+    assert_eq!(rt; table.enter(512, window(3, 4)), None);
     assert_eq!(rt; table.len(), 512);
     assert_eq!(rt; table.find(511), Some(511));
     assert_eq!(rt; table.find(512), None);
     table.remove(0);
-    assert!(rt; table.enter(512, window(3, 4)));
+    assert_eq!(rt; table.enter(512, window(3, 4)), Some(511));
     assert_eq!(rt; table.find(1), Some(0));
     assert_eq!(rt; table.find(512), Some(511));
 }
@@ -85,9 +85,9 @@ fn a_table_holds_512_orders(rt: HostRuntime) {
 #[test]
 fn orders_stand_by_number(rt: HostRuntime) {
     let mut table = Table::empty();
-    assert!(rt; table.enter(7, window(1, 2)));
-    assert!(rt; table.enter(3, window(2, 2)));
-    assert!(rt; table.enter(5, window(0, 2)));
+    assert_eq!(rt; table.enter(7, window(1, 2)), Some(0));
+    assert_eq!(rt; table.enter(3, window(2, 2)), Some(0));
+    assert_eq!(rt; table.enter(5, window(0, 2)), Some(1));
     assert_eq!(rt; table.find(5), Some(1));
     assert_eq!(rt; table.told(5), Some((0, 2)));
     table.change(5, window(1, 1));
@@ -105,7 +105,7 @@ fn orders_stand_by_number(rt: HostRuntime) {
 fn orders_are_let_out_into_enough_room(rt: HostRuntime) -> Result<(), Fail> {
     let mut table = Table::empty();
     for number in [4, 6, 9] {
-        assert!(rt; table.enter(number, window(0, 1)));
+        assert!(rt; table.enter(number, window(0, 1)).is_some());
     }
     let days = table.plan(0, &[(0, 2), (0, 2)])?.ok_or("no plan")?;
     assert_eq!(rt; table.let_out(0, &days, &mut [8, 8]), None);

@@ -1,110 +1,100 @@
 -- The orders that a list of days puts on a day, and those that it puts on other days.
-use Rattle.std.proofs.Common.{◌≡◌, ℕ, ◌+◌, ◌<◌, ◌≤◌, true, false, cond, eqb, List, [], ◌∷◌, ◌++◌, map, length, get_or, take, drop, set, sym, refl, ap, ◌∙◌, ap₂, inl, inr, arith, length-append}
-use Rattle.std.proofs.lemmas.List.{take_more, take_more_set, map_more, length-map, length-take-le, append-nil, get_or-drop, drop-drop, drop-set-lt}
-use Rattle.std.proofs.lemmas.Bool.{ne_eqb, eq-eqb, cases_Bool}
+use Rattle.std.proofs.Common.{◌≡◌, ℕ, ◌+◌, ◌<◌, ◌≤◌, true, false, cond, eqb, List, [], ◌∷◌, ◌++◌, map, length, get_or, take, drop, set, min, sym, refl, ap, ◌∙◌, ap₂, inl, inr, arith}
+use Rattle.std.proofs.lemmas.List.{take_more_set, length-take-le, take-append-drop, append-nil, append_assoc, get_or-drop, drop-drop, drop-set-lt, at_drop_more, at_drop_all}
+use Rattle.std.proofs.lemmas.Bool.{ne_eqb, eq-eqb, cases_Bool, cases_lt}
 use Rattle.ledger.specs.Orders.{Order as Held, leaving, staying}
 use Rattle.ledger.specs.Replies.{onto}
 use Rattle.orders.specs.declared.order.Order.{Order}
 use Rattle.orders.specs.Records.{entry_of}
 use Rattle.orders.specs.Lists.{off}
-use Rattle.orders.proofs.Places.{unused}
 
--- one order more at the end
-leaving_end : (t : ℕ) (os : List Held) (ts : List ℕ) (o : Held) (u : ℕ) → length os ≡ length ts
-    → leaving t (os ++ (o ∷ [])) (ts ++ (u ∷ [])) ≡ leaving t os ts ++ cond (eqb t u) (o.number ∷ []) []
-leaving_end t [] [] o u e = refl
-leaving_end t [] (x ∷ ts) o u e = absurd (omega arith)
-leaving_end t (p ∷ os) [] o u e = absurd (omega arith)
-leaving_end t (p ∷ os) (x ∷ ts) o u e =
-    let f = leaving_end t os ts o u (omega arith) in
-    elim (cases_Bool (eqb t x)) [ inl h ↦ rw h (ap (λ l. p.number ∷ l) f) | inr h ↦ rw h f ]
+-- A list that began as `old`: its first n are the first of `all`, of which `rest` is still to be written, and from place k on
+-- it is as it was.
+module _ {A : Type 0} (all old : List A) where
+  pub record Written (rest : List A) (n k : ℕ) (now : List A) : Type 0 where
+    pub behind : n ≤ k
+    pub front : take n now ++ rest ≡ all
+    pub back : drop k now ≡ drop k old
 
-off_end : {A : Type 0} (t : ℕ) (xs : List A) (ts : List ℕ) (y : A) (u : ℕ) → length xs ≡ length ts
-    → off t (xs ++ (y ∷ [])) (ts ++ (u ∷ [])) ≡ off t xs ts ++ cond (eqb t u) [] (y ∷ [])
-off_end t [] [] y u e = refl
-off_end t [] (x ∷ ts) y u e = absurd (omega arith)
-off_end t (p ∷ xs) [] y u e = absurd (omega arith)
-off_end t (p ∷ xs) (x ∷ ts) y u e =
-    let f = off_end t xs ts y u (omega arith) in
-    elim (cases_Bool (eqb t x)) [ inl h ↦ rw h f | inr h ↦ rw h (ap (λ l. p ∷ l) f) ]
+  pub nothing_written : Written all 0 0 old
+  nothing_written = record { behind = omega arith; front = refl; back = refl }
 
--- writing at the end of what was written
-onto_more : (xs old : List ℕ) (v : ℕ) → length xs < length old → set (onto xs old) (length xs) v ≡ onto (xs ++ (v ∷ [])) old
-onto_more [] [] v h = absurd (omega arith)
-onto_more [] (y ∷ ys) v h = refl
-onto_more (x ∷ xs) [] v h = absurd (omega arith)
-onto_more (x ∷ xs) (y ∷ ys) v h = ap (λ z. x ∷ z) (onto_more xs ys v (omega arith))
+  module _ (rest more : List A) (n k : ℕ) (now : List A) (w : Written rest n k now) where
+    back_more : drop (k + 1) now ≡ drop (k + 1) old
+    back_more = sym (drop-drop 1 k now) ∙ ap (drop 1) w.back ∙ drop-drop 1 k old
 
--- the numbers that leave of the first i orders, written to the front of a list
-module _ (t : ℕ) (os : List Order) (ts old : List ℕ) where
-  abbrev gone : ℕ → List ℕ
-  gone i = leaving t (map entry_of (take i os)) (take i ts)
-
-  pub record Written (i n : ℕ) (list : List ℕ) : Type 0 where
-    pub many : n ≡ length (gone i)
-    pub behind : n ≤ i
-    pub front : list ≡ onto (gone i) old
-
-  module _ (i : ℕ) (h : i < length os) (j : i < length ts) where
-    gone_more : gone (i + 1) ≡ gone i ++ cond (eqb t (get_or ts i 0)) ((get_or os i unused).number ∷ []) []
-    gone_more =
-        ap₂ (leaving t) (map_more entry_of os i unused h) (take_more ts i 0 j)
-        ∙ leaving_end t (map entry_of (take i os)) (take i ts) (entry_of (get_or os i unused)) (get_or ts i 0)
-        (simp (length-map, length-take-le i os (omega arith), length-take-le i ts (omega arith)))
-
-    pub written_more : (n : ℕ) (list : List ℕ) → length os ≤ length old → Written i n list → get_or ts i 0 ≡ t
-        → Written (i + 1) (n + 1) (set list n (get_or os i unused).number)
-    written_more n list room w here =
-        let x : eqb t (get_or ts i 0) ≡ true = eq-eqb t (get_or ts i 0) (sym here) in
-        let m : gone (i + 1) ≡ gone i ++ ((get_or os i unused).number ∷ []) = gone_more ∙ rw x in
+    pub written_more : (y : A) → n < length now → rest ≡ y ∷ more → Written more (n + 1) (k + 1) (set now n y)
+    written_more y h e =
+        let b = w.behind in
         record {
-          many = ap (λ k. k + 1) w.many ∙ sym (ap length m ∙ simp length-append);
           behind = omega arith;
-          front = ap₂ (λ l k. set l k (get_or os i unused).number) w.front w.many ∙ onto_more (gone i) old _ (omega (arith, w.many)) ∙ ap (λ l. onto l old) (sym m);
+          front = ap (λ l. l ++ more) (take_more_set now n y h) ∙ append_assoc (take n now) (y ∷ []) more ∙ ap (λ l. take n now ++ l) (sym e) ∙ w.front;
+          back = drop-set-lt (k + 1) now n y (omega arith) ∙ back_more;
         }
 
-    pub written_same : (n : ℕ) (list : List ℕ) → Written i n list → (get_or ts i 0 ≡ t → ⊥) → Written (i + 1) n list
-    written_same n list w other =
-        let x : eqb t (get_or ts i 0) ≡ false = ne_eqb t (get_or ts i 0) (λ e. other (sym e)) in
-        let m : gone (i + 1) ≡ gone i = gone_more ∙ rw x (append-nil (gone i)) in
-        record { many = w.many ∙ ap length (sym m); behind = omega arith; front = w.front ∙ ap (λ l. onto l old) (sym m) }
+    pub written_same : rest ≡ more → Written more n k now
+    written_same e = record { behind = w.behind; front = ap (λ l. take n now ++ l) (sym e) ∙ w.front; back = w.back }
 
--- what stays of the first i, moved to the front of ys, which began as xs
-module _ {A : Type 0} (d : A) (t : ℕ) (xs : List A) (ts : List ℕ) where
-  pub record Kept (i n : ℕ) (ys : List A) : Type 0 where
-    pub behind : n ≤ i
-    pub front : take n ys ≡ off t (take i xs) (take i ts)
-    pub rest : drop i ys ≡ drop i xs
+    pub written_past : rest ≡ more → Written more n (k + 1) now
+    written_past e = let b = w.behind in record { behind = omega arith; front = ap (λ l. take n now ++ l) (sym e) ∙ w.front; back = back_more }
 
-  module _ (i n : ℕ) (ys : List A) (h : i < length xs) (j : i < length ts) (long : length ys ≡ length xs) (k : Kept i n ys) where
-    off_more : off t (take (i + 1) xs) (take (i + 1) ts) ≡ off t (take i xs) (take i ts) ++ cond (eqb t (get_or ts i 0)) [] (get_or xs i d ∷ [])
-    off_more =
-        ap₂ (off t) (take_more xs i d h) (take_more ts i 0 j)
-        ∙ off_end t (take i xs) (take i ts) (get_or xs i d) (get_or ts i 0) (simp (length-take-le i xs (omega arith), length-take-le i ts (omega arith)))
+    pub still_there : (d : A) → get_or now k d ≡ get_or old k d
+    still_there d =
+        let z : k + 0 ≡ k = omega arith in
+        ap (λ m. get_or now m d) (sym z) ∙ sym (get_or-drop k now 0 d) ∙ ap (λ l. get_or l 0 d) w.back ∙ get_or-drop k old 0 d ∙ ap (λ m. get_or old m d) z
 
-    rest_more : drop (i + 1) ys ≡ drop (i + 1) xs
-    rest_more = sym (drop-drop 1 i ys) ∙ ap (drop 1) k.rest ∙ drop-drop 1 i xs
+    pub all_written : rest ≡ [] → take n now ≡ all
+    all_written e = sym (append-nil (take n now)) ∙ ap (λ l. take n now ++ l) (sym e) ∙ w.front
 
-    here : get_or ys i d ≡ get_or xs i d
-    here =
-        let z : i + 0 ≡ i = omega arith in
-        ap (λ m. get_or ys m d) (sym z) ∙ sym (get_or-drop i ys 0 d) ∙ ap (λ l. get_or l 0 d) k.rest ∙ get_or-drop i xs 0 d ∙ ap (λ m. get_or xs m d) z
+-- the numbers that leave, written to the front of a list
+pub written_onto : (all old rest : List ℕ) (n : ℕ) (now : List ℕ) → Written all old rest n n now → rest ≡ [] → n ≤ length now
+    → (n ≡ length all) × (now ≡ onto all old)
+written_onto all old rest n now w e h =
+    let f = all_written all old rest [] n n now w e in
+    let many : n ≡ length all = sym (length-take-le n now h) ∙ ap length f in
+    (many, sym (take-append-drop n now) ∙ ap₂ (λ a b. a ++ b) f w.back ∙ ap (λ m. all ++ drop m old) many)
 
-    pub kept_more : (get_or ts i 0 ≡ t → ⊥) → Kept (i + 1) (n + 1) (set ys n (get_or ys i d))
-    kept_more other =
-        let x : eqb t (get_or ts i 0) ≡ false = ne_eqb t (get_or ts i 0) (λ e. other (sym e)) in
-        let m : off t (take (i + 1) xs) (take (i + 1) ts) ≡ off t (take i xs) (take i ts) ++ (get_or xs i d ∷ []) = off_more ∙ rw x in
-        record {
-          behind = omega (arith, k.behind);
-          front = take_more_set ys n (get_or ys i d) (omega (arith, k.behind)) ∙ ap₂ (λ l y. l ++ (y ∷ [])) k.front here ∙ sym m;
-          rest = drop-set-lt (i + 1) ys n (get_or ys i d) (omega (arith, k.behind)) ∙ rest_more;
-        }
+-- what is still to come at place i
+module _ (t : ℕ) (ts : List ℕ) (i : ℕ) where
+  module _ (os : List Order) where
+    abbrev pub leaving_from : List ℕ
+    leaving_from = leaving t (map entry_of (drop i os)) (drop i ts)
 
-    pub kept_same : get_or ts i 0 ≡ t → Kept (i + 1) n ys
-    kept_same at =
-        let x : eqb t (get_or ts i 0) ≡ true = eq-eqb t (get_or ts i 0) (sym at) in
-        let m : off t (take (i + 1) xs) (take (i + 1) ts) ≡ off t (take i xs) (take i ts) = off_more ∙ rw x (append-nil _) in
-        record { behind = omega (arith, k.behind); front = k.front ∙ sym m; rest = rest_more }
+  module _ {A : Type 0} (xs : List A) where
+    abbrev pub off_from : List A
+    off_from = off t (drop i xs) (drop i ts)
+
+no_more_leave : (t : ℕ) (os : List Held) → leaving t os [] ≡ []
+no_more_leave t [] = refl
+no_more_leave t (o ∷ os) = refl
+
+-- the next element stays, or goes
+module _ {A : Type 0} (t : ℕ) (xs : List A) (ts : List ℕ) (i n : ℕ) (now : List A) (h : i < length xs) (j : i < length ts)
+    (w : Written (off t xs ts) xs (off_from t ts i xs) n i now) where
+  abbrev next : List A
+  next = off_from t ts (i + 1) xs
+
+  off_at : (d : A) → off_from t ts i xs ≡ cond (eqb t (get_or ts i 0)) next (get_or xs i d ∷ next)
+  off_at d = at_drop_more (λ l. off t l (drop i ts)) xs i d h ∙ at_drop_more (λ l. off t (get_or xs i d ∷ drop (i + 1) xs) l) ts i 0 j
+
+  pub kept_more : (d : A) → length now ≡ length xs → (get_or ts i 0 ≡ t → ⊥) → Written (off t xs ts) xs next (n + 1) (i + 1) (set now n (get_or now i d))
+  kept_more d long other =
+      let x : eqb t (get_or ts i 0) ≡ false = ne_eqb t (get_or ts i 0) (λ e. other (sym e)) in
+      let b = w.behind in
+      rw (still_there (off t xs ts) xs _ next n i now w d)
+      (written_more (off t xs ts) xs _ next n i now w (get_or xs i d) (omega arith) (off_at d ∙ rw x))
+
+  pub kept_same : A → get_or ts i 0 ≡ t → Written (off t xs ts) xs next n (i + 1) now
+  kept_same d at =
+      let x : eqb t (get_or ts i 0) ≡ true = eq-eqb t (get_or ts i 0) (sym at) in
+      written_past (off t xs ts) xs _ next n i now w (off_at d ∙ rw x)
+
+pub leaving_end : (t : ℕ) (ts : List ℕ) (i : ℕ) (os : List Order) → i ≡ min (length os) (length ts) → leaving_from t ts i os ≡ []
+leaving_end t ts i os e =
+    elim (cases_lt (length ts) (length os)) [
+      | inl h ↦ at_drop_all (λ l. leaving t (map entry_of (drop i os)) l) ts i (omega arith) ∙ no_more_leave t (map entry_of (drop i os))
+      | inr h ↦ at_drop_all (λ l. leaving t (map entry_of l) (drop i ts)) os i (omega arith)
+    ]
 
 -- what the ledger keeps of those that stay, and the windows that they are told
 pub off_map : {A B : Type 0} (f : A → B) (t : ℕ) (xs : List A) (ts : List ℕ) → map f (off t xs ts) ≡ off t (map f xs) ts

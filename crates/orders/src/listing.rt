@@ -36,22 +36,21 @@ pub fn place_for(orders: &[Order], number: u16) -> usize
 pub fn begin_at(orders: &mut [Order], today: u16)
     ensures { orders.new ≡ map (told_begun today) orders.old }
 {
-    for order in orders.iter_mut() {
+    for order in orders {
         order.begin_at(today);
     }
 }
 
 // Writes the numbers of the orders whose day is today to the front of a list, and tells how many.
 pub fn write_leaving(orders: &[Order], days: &[u16], today: u16, list: &mut [u16]) -> usize
-    requires days_len { length days.now ≡ length orders.now }
-    requires orders_in_bounds { length orders.now ≤ length list.old }
+    requires { length orders.now ≤ length list.old }
     ensures many { result ≡ length (leaving today (map entry_of orders.now) days.now) }
     ensures list { list.new ≡ onto (leaving today (map entry_of orders.now) days.now) list.old }
 {
     let mut count = 0;
-    for i in 0..orders.len() {
-        if days[i] == today {
-            list[count] = orders[i].number;
+    for (order, day) in orders.iter().zip(days) {
+        if *day == today {
+            list[count] = order.number;
             count += 1;
         }
     }
@@ -65,9 +64,9 @@ pub fn keep_staying(orders: &mut [Order], days: &[u16], today: u16) -> usize
     ensures front { take result orders.new ≡ off today orders.old days.now }
 {
     let mut count = 0;
-    for i in 0..orders.len() {
-        if days[i] != today {
-            orders[count] = orders[i];
+    for (place, day) in days.iter().enumerate() {
+        if *day != today {
+            orders[count] = orders[place];
             count += 1;
         }
     }

@@ -1,5 +1,5 @@
 ghost use Rattle.std.specs.Prelude.{◌≡◌};
-ghost use Rattle.orders.specs.Records.{told_span, retold, told_begun};
+ghost use Rattle.orders.specs.Records.{told_span, retold, new_order, told_begun};
 ghost use Rattle.std.proofs.Common.{rules};
 
 use records::{Record, Window};
@@ -33,6 +33,17 @@ impl Record for Order {
 }
 
 impl Order {
+    // An order as it is entered: told the window that it asks for.
+    pub fn new(number: u16, asked: Window) -> Order
+        ensures { result ≡ new_order number asked }
+    {
+        Order {
+            number,
+            asked,
+            told: asked,
+        }
+    }
+
     // Tells the asked window, begun no earlier than today.
     pub fn begin_at(&mut self, today: u16)
         ensures { self.new ≡ told_begun today self.old }

@@ -13,12 +13,7 @@ impl Table {
     pub fn empty() -> Table
         ensures { held_in result ≡ [] }
     {
-        let none = Window { first: 0, last: 0 };
-        let unused = Order {
-            number: 0,
-            asked: none,
-            told: none,
-        };
+        let unused = Order::new(0, Window { first: 0, last: 0 });
         Table {
             orders: [unused; MOST_RECORDS],
             len: 0,
@@ -29,7 +24,7 @@ impl Table {
     pub fn as_slice(&self) -> &[Order]
         ensures { result.now ≡ listed self.now }
     {
-        &self.orders[0..self.len]
+        &self.orders[..self.len]
     }
 
     // How many orders are held.

@@ -15,26 +15,22 @@ use records::Window;
 use records::limits::MOST_RECORDS;
 
 impl Table {
-    // Enters an order before the first with a larger number; it is told the window that it asks for. False where 512 are
-    // held, and then nothing changes.
-    pub fn enter(&mut self, number: u16, asked: Window) -> bool
-        ensures answer { result ≡ has_room self.old }
-        ensures held { held_in self.new ≡ (if result then entered (entry_of (new_order number asked)) (held_in self.old) else held_in self.old) }
-        ensures told { told_in self.new ≡ (if result then insert (told_in self.old) (entry_place number (held_in self.old)) (span_of asked) else told_in self.old) }
+    // Enters an order before the first with a larger number, and tells its place; it is told the window that it asks for. None
+    // where 512 are held, and then nothing changes.
+    pub fn enter(&mut self, number: u16, asked: Window) -> Option<usize>
+        ensures answer { result ≡ (if has_room self.old then Some (entry_place number (held_in self.old)) else None) }
+        ensures held { held_in self.new ≡ (if has_room self.old then entered (entry_of (new_order number asked)) (held_in self.old) else held_in self.old) }
+        ensures told { told_in self.new ≡ (if has_room self.old then insert (told_in self.old) (entry_place number (held_in self.old)) (span_of asked) else told_in self.old) }
     {
         let count = self.len;
         if count == MOST_RECORDS {
-            return false;
+            return None;
         }
         let place = listing::place_for(self.as_slice(), number);
-        self.orders[count] = Order {
-            number,
-            asked,
-            told: asked,
-        };
-        self.orders[place..count + 1].rotate_right(1);
-        self.len = count + 1;
-        true
+        self.orders[count] = Order::new(number, asked);
+        self.orders[place..=count].rotate_right(1);
+        self.len += 1;
+        Some(place)
     }
 
     // Asks for another window for the order under a number, if it is held. What it is told stays.
@@ -43,8 +39,7 @@ impl Table {
         ensures told { told_in self.new ≡ told_in self.old }
     {
         if let Some(place) = self.find(number) {
-            let order = &mut self.orders[place];
-            order.asked = asked;
+            self.orders[place].asked = asked;
         }
     }
 
@@ -56,7 +51,7 @@ impl Table {
         if let Some(place) = self.find(number) {
             let count = self.len;
             self.orders[place..count].rotate_left(1);
-            self.len = count - 1;
+            self.len -= 1;
         }
     }
 
@@ -77,7 +72,7 @@ impl Table {
         if list.len() < count {
             return None;
         }
-        let days = &days[0..count];
+        let days = &days[..count];
         let out = listing::write_leaving(self.as_slice(), days, today, list);
         self.len = listing::keep_staying(&mut self.orders[0..count], days, today);
         Some(out)

@@ -46,10 +46,8 @@ impl Table {
     pub fn told(&self, number: u16) -> Option<(u16, u16)>
         ensures { result ≡ option_map (window_at (told_in self.now)) (place_in number (held_in self.now)) }
     {
-        match self.find(number) {
-            Some(place) => Some(self.orders[place].window()),
-            None => None,
-        }
+        let place = self.find(number)?;
+        Some(self.orders[place].window())
     }
 
     // A copy in which each order is told its asked window, begun no earlier than today.

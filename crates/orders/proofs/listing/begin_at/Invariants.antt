@@ -3,4 +3,4 @@ use Rattle.orders.specs.Records.{told_begun}
 use Rattle.orders.proofs.listing.begin_at.Given as goal
 
 abbrev pub invariant-loop-order : goal.invariant-loop-order
-invariant-loop-order l = l.orders ≡ map (told_begun l.today) (take l.order-index l.initial.orders) ++ drop l.order-index l.initial.orders
+invariant-loop-order l = l.order-items ≡ map (told_begun l.today) (take l.order-index l.initial.order-items) ++ drop l.order-index l.initial.order-items

@@ -10,17 +10,17 @@ use Rattle.orders.proofs.Tables.{found_within}
 use Rattle.orders.proofs.table.Table.told.Goals as goal
 
 pub offset_bounds-self-place : goal.offset_bounds-self-place
-offset_bounds-self-place c = omega (arith, found_within c.args.self.now c.args.number c.in-Some.place c.in-Some.ensures)
+offset_bounds-self-place c = omega (arith, found_within c.args.self.now c.args.number c.in_ok-place.place c.in_ok-place.ensures)
 
 pub bounds-self-place : goal.bounds-self-place
-bounds-self-place c = omega (arith, found_within c.args.self.now c.args.number c.in-Some.place c.in-Some.ensures)
+bounds-self-place c = omega (arith, found_within c.args.self.now c.args.number c.in_ok-place.place c.in_ok-place.ensures)
 
-pub returns-in-Some : goal.returns-in-Some
-returns-in-Some c =
+pub returns : goal.returns
+returns c =
     let t = c.args.self.now in
-    let i : ℕ = c.in-Some.place in
+    let i : ℕ = c.in_ok-place.place in
     let os : List Order = take t.len t.orders in
-    let h = found_within t c.args.number i c.in-Some.ensures in
+    let h = found_within t c.args.number i c.in_ok-place.ensures in
     let e : c.window.result ≡ window (told_in t) i =
     c.window.ensures ∙ ap told_span (sym (get_or-take t.len t.orders i unused h)) ∙ sym (get_or-map told_span os i unused (0, 0) (omega (arith, length-take-le t.len t.orders (omega arith)))) in
-    ap Some e ∙ ap (option_map (window (told_in t))) c.in-Some.ensures
+    ap Some e ∙ ap (option_map (window (told_in t))) c.in_ok-place.ensures

@@ -1,7 +1,7 @@
-use Rattle.std.proofs.Common.{length, sym, ap, ◌∙◌}
+use Rattle.std.proofs.Common.{length, sym, refl, ap, ◌∙◌}
 use Rattle.ledger.specs.Orders.{Order}
 use Rattle.ledger.specs.Calls.{Edit.admit, Call.edit, checks, first_fault, with_held}
-use Rattle.orders.specs.Tables.{held_in}
+use Rattle.orders.specs.Tables.{held_in, has_room}
 use Rattle.state.specs.Model.{ledger_of}
 use Rattle.state.specs.Near.{near_all}
 use Rattle.state.proofs.Nearness.{near_from, near_enter}
@@ -20,7 +20,7 @@ with_table-next-requires g c =
     let none = no_fault n c.check_admit.result (first_fault (checks (ledger_of s) (edit (admit n f l) m))) c.check_admit.ensures
     (sym c.about.ensures ∙ c.in_ok-about.was) in
     let p = admit_passed (ledger_of s) n f l m none in
-    ap (near_all s.today) (entered (held_in s.table) (held_in c.enter.new.self) o c.enter.result p.0 c.enter.ensures.answer c.enter.ensures.held)
+    ap (near_all s.today) (entered (held_in s.table) (held_in c.enter.new.self) o (has_room s.table) p.0 refl c.enter.ensures.held)
     ∙ near_enter s.today o (ledger_of s).held (near_from s.today o p.1) s.near
 
 pub returns : goal.returns
@@ -34,7 +34,7 @@ returns g c =
     let none = no_fault n c.check_admit.result (first_fault (checks (ledger_of s) (edit (admit n f l) m))) c.check_admit.ensures
     (sym c.about.ensures ∙ c.in_ok-about.was) in
     let p = admit_passed (ledger_of s) n f l m none in
-    let h = entered (held_in s.table) (held_in c.enter.new.self) o c.enter.result p.0 c.enter.ensures.answer c.enter.ensures.held in
+    let h = entered (held_in s.table) (held_in c.enter.new.self) o (has_room s.table) p.0 refl c.enter.ensures.held in
     let t = edits_to (g.C.Calendar.told c.args.calendar.now) (ledger_of s) (admit n f l) _ _ c.check_admit.result c.check_admit.ensures
     (sym c.about.ensures ∙ c.in_ok-about.was) c.settle.auto.marks _ _ c.settle.result
     (c.with_table-next.ensures ∙ ap (λ os. with_held os (ledger_of s)) h) c.settle.ensures in
