@@ -1,17 +1,13 @@
 -- What each check answers, and what a making keeps of what it is given.
-use Rattle.std.specs.Prelude.{ℕ, cond, List, [], length, replicate, Some, None, Ok, Err, Option, Result, nat_le}
+use Rattle.std.specs.Prelude.{ℕ, cond, List, [], length, replicate, Ok, Err, Result, nat_le}
 use Rattle.calendar.specs.declared.fault.CalendarFault.{CalendarFault}
 use Rattle.calendar.specs.declared.fault.CalendarFault.TheVariants.{NoWeekday, TooManyPairs, BadRow, BadRun, TooManyRuns}
+use Rattle.refusals.specs.Outcomes.{unless}
 use Rattle.pairs.specs.Pairs.{bad_pair}
 use Rattle.calendar.specs.Pairs.{bad_run}
 
 abbrev pub Verdict : Type 0
 Verdict = Result (Unit {0}) CalendarFault
-
--- refused with the place that was found, or accepted where there is none
-abbrev pub unless : (ℕ → CalendarFault) → Option ℕ → Verdict
-unless fault None = Ok tt
-unless fault (Some i) = Err (fault i)
 
 abbrev pub rows_check : List (ℕ × ℕ) → Verdict
 rows_check rows = unless BadRow (bad_pair rows)

@@ -5,11 +5,6 @@ use std::alloc::Global;
 use std::process::Abort;
 use std::test::Fail;
 
-// A window.
-fn window(first: u16, last: u16) -> Window {
-    Window { first, last }
-}
-
 // Orders and bare windows with the same windows are narrowed alike, with the same marks, and the orders keep the rest.
 fn alike(
     rt: &impl Abort,
@@ -44,20 +39,20 @@ fn alike(
 fn orders_are_narrowed_as_windows(rt: HostRuntime) -> Result<(), Fail> {
     let heap = rt.alloc();
     let one_a_day = [(0, 1), (0, 1), (0, 1)];
-    let three = [window(10, 12), window(10, 10), window(11, 12)];
+    let three = [Window::from((10, 12)), Window::from((10, 10)), Window::from((11, 12))];
     alike(&rt, heap, &one_a_day, &three, Ok(()))?;
     alike(
         &rt,
         heap,
         &[(1, 1), (1, 2)],
-        &[window(10, 11), window(10, 11)],
+        &[Window::from((10, 11)), Window::from((10, 11))],
         Ok(()),
     )?;
     alike(
         &rt,
         heap,
         &one_a_day,
-        &[window(10, 10), window(10, 12), window(10, 10)],
+        &[Window::from((10, 10)), Window::from((10, 12)), Window::from((10, 10))],
         Err(NarrowingFault::Overfull {
             windows: 2,
             mosts: 1,
@@ -69,15 +64,15 @@ fn orders_are_narrowed_as_windows(rt: HostRuntime) -> Result<(), Fail> {
 fn a_table_holds_512_orders(rt: HostRuntime) {
     let mut table = Table::empty();
     for number in 0..512 {
-        assert_eq!(rt; table.enter(number, window(3, 4)), Some(number as usize));
+        assert_eq!(rt; table.enter(number, Window::from((3, 4))), Some(usize::from(number)));
     }
     assert_eq!(rt; table.len(), 512);
-    assert_eq!(rt; table.enter(512, window(3, 4)), None);
+    assert_eq!(rt; table.enter(512, Window::from((3, 4))), None);
     assert_eq!(rt; table.len(), 512);
     assert_eq!(rt; table.find(511), Some(511));
     assert_eq!(rt; table.find(512), None);
     table.remove(0);
-    assert_eq!(rt; table.enter(512, window(3, 4)), Some(511));
+    assert_eq!(rt; table.enter(512, Window::from((3, 4))), Some(511));
     assert_eq!(rt; table.find(1), Some(0));
     assert_eq!(rt; table.find(512), Some(511));
 }
@@ -85,12 +80,12 @@ fn a_table_holds_512_orders(rt: HostRuntime) {
 #[test]
 fn orders_stand_by_number(rt: HostRuntime) {
     let mut table = Table::empty();
-    assert_eq!(rt; table.enter(7, window(1, 2)), Some(0));
-    assert_eq!(rt; table.enter(3, window(2, 2)), Some(0));
-    assert_eq!(rt; table.enter(5, window(0, 2)), Some(1));
+    assert_eq!(rt; table.enter(7, Window::from((1, 2))), Some(0));
+    assert_eq!(rt; table.enter(3, Window::from((2, 2))), Some(0));
+    assert_eq!(rt; table.enter(5, Window::from((0, 2))), Some(1));
     assert_eq!(rt; table.find(5), Some(1));
     assert_eq!(rt; table.told(5), Some((0, 2)));
-    table.change(5, window(1, 1));
+    table.change(5, Window::from((1, 1)));
     table.begin_at(0);
     assert_eq!(rt; table.told(5), Some((1, 1)));
     table.begin_at(2);
@@ -105,13 +100,13 @@ fn orders_stand_by_number(rt: HostRuntime) {
 fn orders_are_let_out_into_enough_room(rt: HostRuntime) -> Result<(), Fail> {
     let mut table = Table::empty();
     for number in [4, 6, 9] {
-        assert!(rt; table.enter(number, window(0, 1)).is_some());
+        assert!(rt; table.enter(number, Window::from((0, 1))).is_some());
     }
     let days = table.plan(0, &[(0, 2), (0, 2)])?.ok_or("no plan")?;
-    assert_eq!(rt; table.let_out(0, &days, &mut [8, 8]), None);
+    assert_eq!(rt; table.let_out(0, days.as_slice(), &mut [8, 8]), None);
     assert_eq!(rt; table.len(), 3);
     let mut list = [8; 4];
-    assert_eq!(rt; table.let_out(0, &days, &mut list), Some(2));
+    assert_eq!(rt; table.let_out(0, days.as_slice(), &mut list), Some(2));
     assert_eq!(rt; list, [4, 6, 8, 8]);
     assert_eq!(rt; table.len(), 1);
     assert_eq!(rt; table.find(9), Some(0));

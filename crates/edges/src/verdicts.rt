@@ -109,9 +109,9 @@ fn a_bad_pair_is_told_by_its_day(rt: HostRuntime) -> Result<(), Fail> {
 #[test]
 fn records_are_at_most_512(rt: HostRuntime) -> Result<(), Fail> {
     let heap = rt.alloc();
-    let mut records = vec![in heap; Window { first: 3, last: 3 }; 512]?;
+    let mut records = vec![in heap; Window::from((3, 3)); 512]?;
     gives(&rt, heap, alike(3, 1, (512, 512)), &records, Ok(()))?;
-    records.push(Window { first: 9, last: 3 })?;
+    records.push(Window::from((9, 3)))?;
     gives(
         &rt,
         heap,
@@ -131,34 +131,34 @@ fn records_are_at_most_512(rt: HostRuntime) -> Result<(), Fail> {
 #[test]
 fn windows_lie_within_the_days(rt: HostRuntime) -> Result<(), Fail> {
     let heap = rt.alloc();
-    let all = Window { first: 5, last: 7 };
+    let all = Window::from((5, 7));
     gives(&rt, heap, alike(5, 3, (0, 2)), &[all, all], Ok(()))?;
     gives(
         &rt,
         heap,
         alike(5, 3, (0, 2)),
-        &[all, Window { first: 4, last: 7 }],
+        &[all, Window::from((4, 7))],
         Err(NarrowingFault::BadWindow(1)),
     )?;
     gives(
         &rt,
         heap,
         alike(5, 3, (0, 2)),
-        &[all, Window { first: 5, last: 8 }],
+        &[all, Window::from((5, 8))],
         Err(NarrowingFault::BadWindow(1)),
     )?;
     gives(
         &rt,
         heap,
         alike(5, 3, (0, 2)),
-        &[Window { first: 6, last: 5 }, all],
+        &[Window::from((6, 5)), all],
         Err(NarrowingFault::BadWindow(0)),
     )?;
     gives(
         &rt,
         heap,
         alike(5, 3, (0, 2)),
-        &[all, all, Window { first: 7, last: 7 }],
+        &[all, all, Window::from((7, 7))],
         Ok(()),
     )
 }
@@ -167,18 +167,9 @@ fn windows_lie_within_the_days(rt: HostRuntime) -> Result<(), Fail> {
 fn a_shortage_marks_its_days(rt: HostRuntime) {
     let mut marks = [7u8; 4];
     let crowd = [
-        Window {
-            first: 10,
-            last: 11,
-        },
-        Window {
-            first: 11,
-            last: 11,
-        },
-        Window {
-            first: 11,
-            last: 11,
-        },
+        Window::from((10, 11)),
+        Window::from((11, 11)),
+        Window::from((11, 11)),
     ];
     assert_eq!(rt;
         verdict(10, &[(0, 1), (0, 1), (0, 9)], &crowd, &mut marks),
@@ -189,18 +180,9 @@ fn a_shortage_marks_its_days(rt: HostRuntime) {
     );
     assert_eq!(rt; marks, [0, 1, 0, 7]);
     let few = [
-        Window {
-            first: 10,
-            last: 12,
-        },
-        Window {
-            first: 11,
-            last: 11,
-        },
-        Window {
-            first: 11,
-            last: 11,
-        },
+        Window::from((10, 12)),
+        Window::from((11, 11)),
+        Window::from((11, 11)),
     ];
     assert_eq!(rt;
         verdict(10, &[(1, 3), (0, 3), (1, 3)], &few, &mut marks),

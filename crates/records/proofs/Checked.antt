@@ -7,7 +7,8 @@ use Rattle.records.specs.declared.fault.NarrowingFault.{NarrowingFault}
 use Rattle.records.specs.declared.fault.NarrowingFault.TheVariants.{BadRange, BadPair, TooManyRecords, BadWindow}
 use Rattle.pairs.specs.Pairs.{bad_pair}
 use Rattle.std.specs.List.{position}
-use Rattle.records.specs.Checks.{Outcome, in_range, stands, unless, past, range_check, pairs_check, number_check, windows_check, checked}
+use Rattle.records.specs.Checks.{Outcome, in_range, stands, past, range_check, pairs_check, number_check, windows_check, checked}
+use Rattle.refusals.specs.Outcomes.{unless}
 use Rattle.records.proofs.Places.{sound_all, stands_all}
 
 -- a range that is passed

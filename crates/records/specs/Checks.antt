@@ -1,6 +1,7 @@
 -- What is asked of the days, the pairs and the records, and the first of it that is not met.
-use Rattle.std.specs.Prelude.{ℕ, ◌+◌, ◌-◌, Bool, cond, ◌&&◌, not, List, length, Some, None, Ok, Err, Option, Result, nat_le, nat_lt}
+use Rattle.std.specs.Prelude.{ℕ, ◌+◌, ◌-◌, Bool, cond, ◌&&◌, not, List, length, Ok, Err, Result, nat_le, nat_lt}
 use Rattle.std.specs.List.{position}
+use Rattle.refusals.specs.Outcomes.{unless}
 use Rattle.pairs.specs.Pairs.{bad_pair}
 use Rattle.plans.specs.Plans.{Window, Pair}
 use Rattle.records.specs.declared.fault.NarrowingFault.{NarrowingFault}
@@ -17,11 +18,6 @@ in_range k d n = nat_lt 0 d && nat_le d 128 && nat_le d n && nat_le (k + d - 1) 
 -- A window does not end before it begins, and all its days are of the d days.
 abbrev pub stands : ℕ → ℕ → Window → Bool
 stands k d w = nat_le w.0 w.1 && nat_le k w.0 && nat_lt w.1 (k + d)
-
--- Refused with the place that was found, if there is one.
-abbrev pub unless : (ℕ → NarrowingFault) → Option ℕ → Outcome
-unless fault None = Ok tt
-unless fault (Some i) = Err (fault i)
 
 -- A refusal stands; otherwise what comes next decides.
 abbrev pub past : Outcome → Outcome → Outcome
