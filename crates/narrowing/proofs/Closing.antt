@@ -1,12 +1,10 @@
 -- Windows with one place closed to a day, and lists that are written over.
 use Rattle.std.proofs.Common.{◌≡◌, ℕ, zero, suc, ◌+◌, ◌-◌, ◌<◌, ◌≤◌, Bool, true, false, ◌&&◌, ltb, leb, List, [], ◌∷◌, ◌++◌, map, length, get_or, take, drop, set, Ok, Err, sym, refl, ap, ◌∙◌, subst, inl, inr, arith}
-use Rattle.std.proofs.lemmas.List.{set-append_right, map_more, length-map, length-take-le, drop_more, append_assoc, set-set, set-get_or, map-set, get_or-map, length-set, take_at}
-use Rattle.std.proofs.lemmas.Bool.{cases_Bool, both_ways, leb-true, ltb-true, le-leb, and_parts}
-use Rattle.plans.specs.Plans.{Window, Pair, fewest, Plan}
-use Rattle.plans.specs.Runs.{Roomy, Named}
-use Rattle.plans.specs.Needs.{Within, Proper, NeedLeft}
+use Rattle.std.proofs.lemmas.List.{set-append_right, map_more, length-map, length-take-le, drop_more, append_assoc, set-set, set-get_or, map-set, get_or-map, take_at}
+use Rattle.std.proofs.lemmas.Bool.{cases_Bool, both_ways, ltb-true, and_parts}
+use Rattle.plans.specs.Plans.{Window, Pair, Plan}
+use Rattle.plans.specs.Needs.{Within, Proper}
 use Rattle.plans.specs.Narrowing.{window, supported, Possible}
-use Rattle.plans.proofs.Exists.{plan_exists, mosts_kept_when}
 use Rattle.plans.proofs.Narrowing.{supported_means, possible_closed}
 use Rattle.records.specs.declared.record.bare.Window.{Window as Bare}
 use Rattle.records.specs.Bare.{span_of, bare}
@@ -98,28 +96,12 @@ module _ (k : ℕ) (pairs : List Pair) (bs : List Bare) (i t : ℕ) where
     pub closed_proper : Proper k pairs closed
     closed_proper = let Q : List Window → Type 0 = Proper k pairs in subst Q (sym is_closed) (proper_closed k pairs (map span_of bs) i t P in_list low high)
 
-    by_plan : (b : Bool) → (b ≡ true → (ts : List ℕ) × Plan k pairs closed ts) → (((ts : List ℕ) × Plan k pairs closed ts) → b ≡ true)
+    -- the answer is whether there is a plan with the window closed to the day
+    pub by_plan : (b : Bool) → (b ≡ true → (ts : List ℕ) × Plan k pairs closed ts) → (((ts : List ℕ) × Plan k pairs closed ts) → b ≡ true)
         → b ≡ supported k pairs (map span_of bs) i t
     by_plan b so back =
         let Q : List Window → Type 0 = λ vs. (ts : List ℕ) × Plan k pairs vs ts in
         by_closed k pairs (map span_of bs) i t b in_list low high (λ e. subst Q is_closed (so e)) (λ q. back (subst Q (sym is_closed) q))
-
-    -- an overfull run leaves no plan
-    pub early_no : (run : Window) → Named k pairs closed run → false ≡ supported k pairs (map span_of bs) i t
-    early_no run N =
-        by_plan false (λ e. let z : ◌≡◌ {A = ℕ} 0 1 = cc in absurd (omega arith)) (λ q.
-        let A = q.1 in
-        let R = (mosts_kept_when k pairs closed closed_proper.within).0 (q.0, record { assigned = A.assigned; at_most = A.at_most }) in
-        absurd (omega (arith, N.over, R run N.is_run)))
-
-    -- where no run is overfull, the need of all days decides
-    pub by_need : Roomy k pairs closed → (M : ℕ → ℕ) → NeedLeft k (length pairs) (fewest pairs) closed M
-        → leb (M (length pairs)) (length bs) ≡ supported k pairs (map span_of bs) i t
-    by_need R M L =
-        let d = length pairs in
-        let E = plan_exists k pairs closed M closed_proper L in
-        let n : length closed ≡ length bs = length-map (set bs i (bare (t, t))) span_of ∙ length-set bs i (bare (t, t)) in
-        by_plan (leb (M d) (length bs)) (λ e. E.1 (R, omega (arith, leb-true (M d) (length bs) e))) (λ q. le-leb (M d) (length bs) (omega (arith, (E.0 q).1)))
 
 -- a question that can not be asked, and one that can
 module _ (k : ℕ) (pairs : List Pair) (ws : List Window) (i t m n : ℕ) (ok : checked k pairs ws (length pairs) ≡ Ok tt) (e : length ws ≡ n) where

@@ -1,13 +1,12 @@
 -- The three ways in which the verdict ends: what is then answered, and how the marks stand.
 use Rattle.std.proofs.Common.{◌≡◌, ℕ, suc, ◌+◌, ◌-◌, ◌*◌, ◌<◌, ◌≤◌, List, ◌++◌, length, get_or, take, drop, Ok, Err, sym, refl, ap, ◌∙◌, subst, add-one, arith}
 use Rattle.std.proofs.lemmas.List.{take_at, drop_at}
-use Rattle.plans.specs.Plans.{Window, Pair, fewest, most}
+use Rattle.plans.specs.Plans.{Window, Pair, most, Plan}
 use Rattle.plans.specs.Runs.{total, held, room, Roomy, Named}
 use Rattle.plans.specs.Sets.{Marks, meeting, needed, run_marks, ShowsShortage}
-use Rattle.plans.specs.Needs.{Within, NeedLeft, Proper}
+use Rattle.plans.specs.Needs.{Within}
 use Rattle.plans.specs.Replies.{Reply, reply}
 use Rattle.plans.proofs.Room.{room_sum}
-use Rattle.plans.proofs.Exists.{plan_exists}
 use Rattle.records.specs.declared.fault.NarrowingFault.TheVariants.{Overfull, Short}
 use Rattle.records.specs.Checks.{Outcome, past, checked}
 use Rattle.narrowing.specs.Counting.{Counted, Summed}
@@ -40,11 +39,10 @@ judged_overfull k pairs ws table sums p b C S N before after stand =
     omega (arith, S p (omega arith), S (b + 1) (omega arith), room_sum k pairs p b) in
     judged_by k pairs ws before after _ _ (reply_overfull k pairs ws (take (length pairs) after) C.within run N) (rw (inside, full)) stand
 
--- no run is overfull, and the need is within the number of windows
-pub judged_accepted : (k : ℕ) (pairs : List Pair) (ws : List Window) (M : ℕ → ℕ) → Proper k pairs ws → Roomy k pairs ws
-    → NeedLeft k (length pairs) (fewest pairs) ws M → M (length pairs) ≤ length ws → (marks : List ℕ) → Judged k pairs ws marks marks (Ok tt)
-judged_accepted k pairs ws M A R L fits marks =
-    judged_by k pairs ws marks marks _ _ (reply_accepted k pairs ws (take (length pairs) marks) A.within ((plan_exists k pairs ws M A L).1 (R, fits))) refl refl
+-- there is a plan
+pub judged_accepted : (k : ℕ) (pairs : List Pair) (ws : List Window) → Within k (length pairs) ws → ((ts : List ℕ) × Plan k pairs ws ts) → (marks : List ℕ)
+    → Judged k pairs ws marks marks (Ok tt)
+judged_accepted k pairs ws W P marks = judged_by k pairs ws marks marks _ _ (reply_accepted k pairs ws (take (length pairs) marks) W P) refl refl
 
 -- no run is overfull, and a set shows a shortage
 pub judged_short : (k : ℕ) (pairs : List Pair) (ws : List Window) → Within k (length pairs) ws → Roomy k pairs ws → (days before : List ℕ) (m n : ℕ)

@@ -9,6 +9,7 @@ pub mod Marking
 pub mod Grow
 pub mod Missing
 -- The checks and the verdict
+pub mod Weighed
 pub mod Replies
 pub mod Judged
 -- The need from the right, tight runs, and the narrowing

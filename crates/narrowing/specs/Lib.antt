@@ -5,4 +5,5 @@ pub mod Support
 pub mod Laws
 -- and the tables of the verdict and of the narrowing.
 pub mod Counting
+pub mod Weighing
 pub mod Scanning

@@ -12,6 +12,7 @@ mod runs;
 mod scans;
 mod shortage;
 pub mod support;
+mod tables;
 mod tight;
 
 pub use judging::verdict;

@@ -1,22 +1,19 @@
 // The narrowing: each record is put into the window from the smallest to the largest day that a plan gives it.
-ghost use Rattle.std.specs.Prelude.{◌≡◌, ℕ, ◌≤◌, List, map, length, take, Ok};
-ghost use Rattle.plans.specs.Plans.{Plan, fewest};
-ghost use Rattle.plans.specs.Needs.{Within, Proper, NeedLeft};
+ghost use Rattle.std.specs.Prelude.{◌≡◌, ◌≤◌, map, length, take, Ok};
+ghost use Rattle.plans.specs.Needs.{Within, Proper};
 ghost use Rattle.plans.specs.Narrowing.{narrowed};
-ghost use Rattle.narrowing.specs.Counting.{tabled, Counted, Summed};
+ghost use Rattle.narrowing.specs.Weighing.{Planned};
 ghost use Rattle.narrowing.specs.Verdict.{verdict_of, MarksAfter};
 ghost use Rattle.narrowing.specs.Narrow.{placed, narrow_of, Narrowest};
 ghost use Rattle.narrowing.specs.Scanning.{found, Shorter};
 
-use crate::counting::count_runs;
-use crate::judging::verdict;
-use crate::needs::needs_left;
+use crate::judging::judge;
 use crate::right::needs_right;
-use crate::runs::sum_mosts;
 use crate::scans::{highs, lows};
+use crate::tables::Tables;
 use crate::tight::tight_ends;
 use records::limits::{CELLS, EDGES, MOST_DAYS};
-use records::{NarrowingFault, Record};
+use records::{NarrowingFault, Record, check};
 
 // Puts each record into the window that the table gives for its own.
 fn put_windows<R: Record>(day: u16, table: &[u8; CELLS], records: &mut [R])
@@ -35,34 +32,24 @@ fn put_windows<R: Record>(day: u16, table: &[u8; CELLS], records: &mut [R])
     }
 }
 
-// Narrows, by the tables of the verdict.
-fn narrow_counted<R: Record>(
-    first: u16,
-    pairs: &[(u16, u16)],
-    table: &[u16; CELLS],
-    before: &[u32; EDGES],
-    left: &[u32; EDGES],
-    records: &mut [R],
-)
+// Narrows where there is a plan, by the tables of the verdict.
+fn narrow_counted<R: Record>(first: u16, pairs: &[(u16, u16)], tables: &Tables, records: &mut [R])
     requires pairs_len_bound { (length pairs.now ≤ 128) × (length records.old ≤ 512) }
     requires proper { Proper first pairs.now (map R.span records.old) }
-    requires planned { (ts : List ℕ) × Plan first pairs.now (map R.span records.old) ts }
-    requires counted { Counted first (length pairs.now) (map R.span records.old) table.now }
-    requires summed { Summed pairs.now before.now }
-    requires need_left { NeedLeft first (length pairs.now) (fewest pairs.now) (map R.span records.old) (tabled left.now) }
+    requires planned { Planned first pairs.now (map R.span records.old) tables.now }
     ensures { records.new ≡ placed R.put (narrowed first pairs.now (map R.span records.old)) records.old }
 {
     let days = pairs.len();
     let mut right = [0u32; EDGES];
-    needs_right(pairs, table, &mut right);
+    needs_right(pairs, &tables.held, &mut right);
     let mut earliest = [0u16; EDGES];
     let mut latest = [0u16; EDGES];
     tight_ends(
         pairs,
         records.len() as u32,
-        table,
-        before,
-        left,
+        &tables.held,
+        &tables.before,
+        &tables.left,
         &right,
         &mut earliest,
         &mut latest,
@@ -71,22 +58,6 @@ fn narrow_counted<R: Record>(
     lows(days, &earliest, &mut ends);
     highs(days, &latest, &mut ends);
     put_windows(first, &ends, records);
-}
-
-// Narrows where there is a plan.
-fn narrow_ready<R: Record>(first: u16, pairs: &[(u16, u16)], records: &mut [R])
-    requires pairs_len_bound { (length pairs.now ≤ 128) × (length records.old ≤ 512) }
-    requires proper { Proper first pairs.now (map R.span records.old) }
-    requires planned { (ts : List ℕ) × Plan first pairs.now (map R.span records.old) ts }
-    ensures { records.new ≡ placed R.put (narrowed first pairs.now (map R.span records.old)) records.old }
-{
-    let mut table = [0u16; CELLS];
-    count_runs(first, records, pairs.len(), &mut table);
-    let mut before = [0u32; EDGES];
-    sum_mosts(pairs, &mut before);
-    let mut left = [0u32; EDGES];
-    needs_left(pairs, &table, &mut left);
-    narrow_counted(first, pairs, &table, &before, &left, records);
 }
 
 // Puts each record into the window from the smallest to the largest day that a plan gives it; the rest of each record
@@ -102,7 +73,9 @@ pub fn narrow<R: Record>(
     ensures records { records.new ≡ narrow_of R.put first pairs.now (map R.span records.old) result records.old }
     ensures means { result ≡ Ok tt → Narrowest first pairs.now (map R.span records.old) (map R.span records.new) }
 {
-    verdict(first, pairs, records, marks)?;
-    narrow_ready(first, pairs, records);
+    check(first, pairs, records, marks.len())?;
+    let mut tables = Tables::blank();
+    judge(first, pairs, records, marks, &mut tables)?;
+    narrow_counted(first, pairs, &tables, records);
     Ok(())
 }

@@ -1,16 +1,13 @@
 // The support question: whether some plan gives a record a day.
-ghost use Rattle.std.specs.Prelude.{◌≡◌, ◌<◌, ◌≤◌, Bool, true, ◌↔◌, map, length, Ok, slice_set};
-ghost use Rattle.plans.specs.Needs.{Within, Proper};
+ghost use Rattle.std.specs.Prelude.{◌≡◌, ℕ, ◌<◌, ◌≤◌, Bool, true, ◌↔◌, List, map, length, Ok, slice_set};
+ghost use Rattle.plans.specs.Plans.{Plan};
+ghost use Rattle.plans.specs.Needs.{Proper};
 ghost use Rattle.plans.specs.Narrowing.{supported, Possible};
 ghost use Rattle.records.specs.Bare.{span_of};
-ghost use Rattle.narrowing.specs.Counting.{Blank, Counted};
 ghost use Rattle.narrowing.specs.Support.{support_number, support_place, support_layer, askable, support_of, work_after};
 ghost use Rattle.narrowing.specs.declared.support.SupportFault.TheVariants.{Refused};
 
-use crate::counting::count_runs;
-use crate::needs::needs_left;
-use crate::runs::{overfull, sum_mosts};
-use records::limits::{CELLS, EDGES};
+use crate::tables::Tables;
 use records::{NarrowingFault, Record, Window, check, copy_windows};
 use refusals::Fault;
 
@@ -79,14 +76,15 @@ impl Drop for Closed<'_> {
 }
 
 impl Closed<'_> {
-    // Counts the windows inside each run of days, as they now are.
-    fn count(&self, first: u16, days: usize, table: &mut [u16; CELLS])
-        requires windows_len_bound { (length self.now.windows.now ≤ 512) × (days ≤ 128) }
-        requires within { Within first days (map span_of self.now.windows.now) }
-        requires blank { Blank table.old }
-        ensures { Counted first days (map span_of self.entry.now.windows.now) table.new }
+    // Whether there is a plan for the windows as they now are.
+    fn has_plan(&self, first: u16, pairs: &[(u16, u16)]) -> bool
+        requires pairs_len_bound { (length pairs.now ≤ 128) × (length self.now.windows.now ≤ 512) }
+        requires proper { Proper first pairs.now (map span_of self.now.windows.now) }
+        ensures yes { result ≡ true → (ts : List ℕ) × Plan first pairs.now (map span_of self.entry.now.windows.now) ts }
+        ensures no { (ts : List ℕ) → Plan first pairs.now (map span_of self.entry.now.windows.now) ts → result ≡ true }
     {
-        count_runs(first, &*self.windows, days, table);
+        let mut tables = Tables::blank();
+        tables.weigh(first, pairs, &*self.windows).is_ok()
     }
 }
 
@@ -109,8 +107,6 @@ fn possible(
     if day < old.first || old.last < day {
         return false;
     }
-    let days = pairs.len();
-    let records = windows.len();
     let guard = Closed {
         windows,
         place,
@@ -120,16 +116,7 @@ fn possible(
         first: day,
         last: day,
     };
-    let mut table = [0u16; CELLS];
-    guard.count(first, days, &mut table);
-    let mut before = [0u32; EDGES];
-    sum_mosts(pairs, &mut before);
-    if let Some(_) = overfull(pairs, &table, &before) {
-        return false;
-    }
-    let mut left = [0u32; EDGES];
-    needs_left(pairs, &table, &mut left);
-    left[days] as usize <= records
+    guard.has_plan(first, pairs)
 }
 
 // Whether the place is one of the records, the day one of the days, and the working list long enough.

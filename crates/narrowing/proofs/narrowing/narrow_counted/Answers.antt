@@ -18,9 +18,9 @@ tight_ends-requires-clause-needs_meet g c v h =
     let k : ℕ = c.args.first in
     let pairs : List Pair = c.args.pairs.now in
     let ws : List Window = map g.R.Record.span c.args.records.now in
-    let M : ℕ → ℕ = tabled c.args.left.now in
+    let M : ℕ → ℕ = tabled c.args.tables.now.left in
     let N : ℕ → ℕ = tabled c.needs_right.new.right in
-    let Y : Ready k pairs ws M N = ready k pairs ws M N c.requires.proper c.requires.planned c.requires.need_left (c.needs_right.ensures k ws c.requires.counted) in
+    let Y : Ready k pairs ws M N = ready k pairs ws M N c.requires.proper c.requires.planned.plan c.requires.planned.needs (c.needs_right.ensures k ws c.requires.planned.counted) in
     omega (arith, needs_within k pairs ws M N Y v h, length-map c.args.records.now g.R.Record.span)
 
 pub tight_ends-requires-clause-blank : goal.tight_ends-requires-clause-blank
@@ -31,16 +31,16 @@ put_windows-requires g c =
     let k : ℕ = c.args.first in
     let pairs : List Pair = c.args.pairs.now in
     let ws : List Window = map g.R.Record.span c.args.records.now in
-    let M : ℕ → ℕ = tabled c.args.left.now in
+    let M : ℕ → ℕ = tabled c.args.tables.now.left in
     let N : ℕ → ℕ = tabled c.needs_right.new.right in
-    let Y : Ready k pairs ws M N = ready k pairs ws M N c.requires.proper c.requires.planned c.requires.need_left (c.needs_right.ensures k ws c.requires.counted) in
+    let Y : Ready k pairs ws M N = ready k pairs ws M N c.requires.proper c.requires.planned.plan c.requires.planned.needs (c.needs_right.ensures k ws c.requires.planned.counted) in
     let early : List ℕ = c.tight_ends.new.earliest in
     let late : List ℕ = c.tight_ends.new.latest in
     let table : List ℕ = c.highs.new.table in
     let n = length-map c.args.records.now g.R.Record.span in
     let L : Lows (length pairs) early table = lows_kept (length pairs) early late c.lows.new.table table c.lows.ensures c.highs.ensures.above c.highs.ensures.below in record {
       within = within_more k (length pairs) 128 ws c.requires.pairs_len_bound.0 c.requires.proper.within;
-      shorter = found_shorter k pairs ws M N early late table Y c.requires.planned (c.tight_ends.ensures.early k ws c.requires.counted n) (c.tight_ends.ensures.late k ws c.requires.counted n) L c.highs.ensures.above;
+      shorter = found_shorter k pairs ws M N early late table Y c.requires.planned.plan (c.tight_ends.ensures.early k ws c.requires.planned.counted n) (c.tight_ends.ensures.late k ws c.requires.planned.counted n) L c.highs.ensures.above;
     }
 
 pub returns : goal.returns
@@ -48,13 +48,13 @@ returns g c =
     let k : ℕ = c.args.first in
     let pairs : List Pair = c.args.pairs.now in
     let ws : List Window = map g.R.Record.span c.args.records.now in
-    let M : ℕ → ℕ = tabled c.args.left.now in
+    let M : ℕ → ℕ = tabled c.args.tables.now.left in
     let N : ℕ → ℕ = tabled c.needs_right.new.right in
-    let Y : Ready k pairs ws M N = ready k pairs ws M N c.requires.proper c.requires.planned c.requires.need_left (c.needs_right.ensures k ws c.requires.counted) in
+    let Y : Ready k pairs ws M N = ready k pairs ws M N c.requires.proper c.requires.planned.plan c.requires.planned.needs (c.needs_right.ensures k ws c.requires.planned.counted) in
     let early : List ℕ = c.tight_ends.new.earliest in
     let late : List ℕ = c.tight_ends.new.latest in
     let table : List ℕ = c.highs.new.table in
     let n = length-map c.args.records.now g.R.Record.span in
     let L : Lows (length pairs) early table = lows_kept (length pairs) early late c.lows.new.table table c.lows.ensures c.highs.ensures.above c.highs.ensures.below in
-    let e = found_narrowed k pairs ws M N early late table Y c.requires.planned (c.tight_ends.ensures.early k ws c.requires.counted n) (c.tight_ends.ensures.late k ws c.requires.counted n) L c.highs.ensures.above in
+    let e = found_narrowed k pairs ws M N early late table Y c.requires.planned.plan (c.tight_ends.ensures.early k ws c.requires.planned.counted n) (c.tight_ends.ensures.late k ws c.requires.planned.counted n) L c.highs.ensures.above in
     c.put_windows.ensures ∙ ap (λ vs. placed g.R.Record.put vs c.args.records.now) e
