@@ -6,3 +6,4 @@ pub mod Laws
 -- and the tables of the verdict and of the narrowing.
 pub mod Counting
 pub mod Scanning
+pub mod Tight
