@@ -1,9 +1,10 @@
 -- The scans of a window that ends one day later or begins one day earlier, and parts of lists that they are written to.
-use Rattle.std.proofs.Common.{◌≡◌, ℕ, zero, suc, ◌+◌, ◌-◌, ◌<◌, ◌≤◌, Bool, true, false, cond, ltb, leb, List, length, get_or, take, drop, sym, refl, ap, ◌∙◌, arith}
+use Rattle.std.proofs.Common.{◌≡◌, ℕ, zero, suc, ◌+◌, ◌-◌, ◌<◌, ◌≤◌, Bool, true, false, cond, ltb, leb, List, length, get_or, take, drop, set, sym, refl, ap, ◌∙◌, subst, inl, inr, arith}
 use borrow.Rule.Slice.PartMut.{put_mid}
-use Rattle.std.proofs.lemmas.List.{get_or-take, get_or-drop, length-take-le, length-drop, places}
+use Rattle.std.proofs.lemmas.List.{get_or-set_same, get_or-set_other, get_or-take, get_or-drop, length-take-le, length-drop, places}
+use Rattle.std.proofs.lemmas.Bool.{cases_eq}
 use Rattle.plans.specs.Tight.{scan_up, scan_down}
-use Rattle.narrowing.specs.Scanning.{low_day, high_day}
+use Rattle.narrowing.specs.Scanning.{Stepped, low_day, high_day}
 
 up_last : (m : ℕ → ℕ) (low q n : ℕ) → scan_up m low q (suc n) ≡ cond (leb (m (q + n)) (scan_up m low q n)) (q + n) (scan_up m low q n)
 up_last m low q zero = let e : q ≡ q + 0 = omega arith in ap (λ j. cond (leb (m j) low) j low) e
@@ -35,6 +36,24 @@ pub high_more : (m : ℕ → ℕ) (a b q : ℕ) → a < b → q ≡ suc a → hi
 high_more m a b q h f =
     let e : b - a ≡ suc (b - q) = omega arith in
     ap (scan_down m b a) e ∙ down_last m b a (b - q) ∙ ap (λ j. cond (ltb (scan_down m b j (b - q)) (m j)) a (scan_down m b j (b - q))) (sym f)
+
+-- a step writes place i of a list whose places before it are as they should be
+pub step_more : (P : ℕ → ℕ → Type 0) (xs : List ℕ) (i x : ℕ) → i < length xs → P i x → ((j : ℕ) → j < i → P j (get_or xs j 0))
+    → (j : ℕ) → j < i + 1 → P j (get_or (set xs i x) j 0)
+step_more P xs i x h is low j lt =
+    elim (cases_eq j i) [
+      | inl e ↦
+          let Q : ℕ → Type 0 = λ m. P m (get_or (set xs i x) m 0) in
+          let R : ℕ → Type 0 = P i in
+          subst Q (sym e) (subst R (sym (get_or-set_same xs i x 0 h)) is)
+      | inr ne ↦ let R : ℕ → Type 0 = P j in subst R (sym (get_or-set_other xs i j x 0 ne)) (low j (omega arith))
+    ]
+
+-- what the test answers of the day that is there
+pub taken : (post : ℕ → Bool → Type 0) (day old now x : ℕ) (t : Bool) → now ≡ old → now < 256 → post now t → x ≡ cond t day now → Stepped post day old x
+taken post day old now x t e small tells is =
+    let P : ℕ → Type 0 = λ n. Stepped post day n x in
+    subst P e (small, (t, tells, is))
 
 pub either_way : (t : Bool) (x : ℕ) → cond t x x ≡ x
 either_way true x = refl

@@ -1,11 +1,18 @@
 -- Tight runs by the tests of a row, and their earliest begins and latest ends, one row more.
-use Rattle.std.proofs.Common.{◌≡◌, ℕ, suc, ◌+◌, ◌-◌, ◌<◌, ◌≤◌, Bool, true, false, cond, eqb, List, length, get_or, sym, ap, ◌∙◌, subst, inl, inr, arith}
+use Rattle.std.proofs.Common.{◌≡◌, ℕ, suc, ◌+◌, ◌-◌, ◌<◌, ◌≤◌, Bool, true, false, cond, eqb, List, length, get_or, None, Some, Option, MatchOption, sym, ap, ◌∙◌, subst, inl, inr, arith}
 use Rattle.std.proofs.lemmas.Bool.{cases_lt, cases_Bool, both_ways, eqb-true, eq-eqb, or_cases, or_left, or_right}
 use Rattle.plans.specs.Plans.{Window, Pair, most}
 use Rattle.plans.specs.Runs.{sum}
 use Rattle.plans.specs.Needs.{forced}
 use Rattle.plans.specs.Tight.{Tight, Earliest, Latest}
 use Rattle.narrowing.specs.Scanning.{tight?}
+
+-- the first of n places that a test tells, or the end where it tells none
+pub first_or : (t : ℕ → Bool) (n end x : ℕ) (o : Option ℕ)
+    → MatchOption o ((p : ℕ) → p < n → t p ≡ false) (λ i. (i < n) × (t i ≡ true) × ((p : ℕ) → p < i → t p ≡ false)) → MatchOption o (x ≡ end) (λ i. x ≡ i)
+    → ((p : ℕ) → p < x → p < n → t p ≡ false) × (x < end → t x ≡ true)
+first_or t n end x None none e = ((λ p l h. none p h), λ l. absurd (omega arith))
+first_or t n end x (Some i) some e = let P : ℕ → Type 0 = λ j. t j ≡ true in ((λ p l h. some.2 p (omega arith)), λ l. subst P (sym e) some.1)
 
 module _ (k : ℕ) (pairs : List Pair) (ws : List Window) (M N : ℕ → ℕ) where
   -- the tests of the row of last day b tell the tight runs that end there

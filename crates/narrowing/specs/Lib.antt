@@ -7,3 +7,4 @@ pub mod Laws
 pub mod Counting
 pub mod Weighing
 pub mod Scanning
+pub mod Tight

@@ -1,5 +1,5 @@
 -- The tables of the narrowing. They count days from day k on, as those of the verdict do.
-use Rattle.std.specs.Prelude.{◌≡◌, ℕ, suc, ◌+◌, ◌-◌, ◌*◌, ◌<◌, ◌≤◌, Bool, ◌||◌, List, length, ◌==◌, slice_index}
+use Rattle.std.specs.Prelude.{◌≡◌, ℕ, suc, ◌+◌, ◌-◌, ◌*◌, ◌<◌, ◌≤◌, Bool, cond, ◌||◌, List, length, ◌==◌, slice_index}
 use Rattle.plans.specs.Plans.{Window, Pair, fewest}
 use Rattle.plans.specs.Needs.{NeedRight}
 use Rattle.plans.specs.Narrowing.{window}
@@ -29,6 +29,10 @@ EarliestOf pairs table left right n earliest =
 abbrev pub LatestOf : List Pair → List ℕ → List ℕ → List ℕ → ℕ → List ℕ → Type 0
 LatestOf pairs table left right n latest =
     (k : ℕ) (ws : List Window) → Counted k (length pairs) ws table → length ws ≡ n → Latest k pairs ws (tabled left) (tabled right) (tabled latest)
+
+-- After a step of a scan a window that had the old day has the new one if the test takes the old one.
+abbrev pub Stepped : (ℕ → Bool → Type 0) → ℕ → ℕ → ℕ → Type 0
+Stepped takes day old new = (old < 256) × ((taken : Bool) × takes old taken × (new ≡ cond taken day old))
 
 -- The lowest and the highest day of the window from day a to day b, by the scans.
 abbrev pub low_day : (ℕ → ℕ) → ℕ → ℕ → ℕ

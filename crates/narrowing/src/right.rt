@@ -12,9 +12,8 @@ fn lift(row: &[u16], after: u32, needs: &mut [u32])
     requires after_bound { after < 2147483648 }
     ensures { (p : ℕ) → p < length row.now → slice_index needs.new p ≡ max (slice_index needs.old p) (slice_index row.now p + after) }
 {
-    for p in 0..row.len() {
-        let need = row[p] as u32 + after;
-        needs[p] = needs[p].max(need);
+    for (p, need) in needs.iter_mut().enumerate() {
+        *need = (*need).max(row[p] as u32 + after);
     }
 }
 

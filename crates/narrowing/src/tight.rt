@@ -1,106 +1,71 @@
 // Tight runs: for each end the earliest begin of one, and for each begin the latest end. A run from first day p to last
 // day v ends at v + 1.
-ghost use Rattle.std.specs.Prelude.{◌≡◌, ℕ, ◌<◌, ◌≤◌, max, true, false, ◌||◌, length, if◌then◌else◌, ◌==◌, slice_index};
+ghost use Rattle.std.specs.Prelude.{◌≡◌, ℕ, ◌<◌, ◌≤◌, false, length, if◌then◌else◌, slice_index};
 ghost use Rattle.narrowing.specs.Counting.{Blank, Summed};
-ghost use Rattle.narrowing.specs.Scanning.{tight?, NeedsMeet, EarliestOf, LatestOf};
+ghost use Rattle.narrowing.specs.Scanning.{NeedsMeet, EarliestOf, LatestOf};
 
 use crate::counting::row;
 use records::limits::{CELLS, EDGES};
 
-// What a run holds is all its room, or comes with the need before it to all that the days after leave.
-fn is_tight(held: u32, room: u32, need: u32, rest: u32) -> bool
-    ensures { result ≡ (held == room || need == rest) }
-{
-    (held == room) | (need == rest)
-}
-
-// The end of a run if it is tight, and 0 if not.
-fn end_if_tight(held: u32, room: u32, need: u32, rest: u32, end: u16) -> u16
-    ensures { result ≡ (if held == room || need == rest then end else 0) }
-{
-    if is_tight(held, room, need, rest) {
-        end
-    } else {
-        0
-    }
-}
-
-fn later(a: u16, b: u16) -> u16
-    ensures { result ≡ max a b }
-{
-    if a > b { a } else { b }
-}
-
-// Writes the end of a row's runs wherever one is tight, and says whether one is.
-fn mark_tight(
-    row: &[u16],
-    before: &[u32],
-    left: &[u32],
+// The runs with one last day, by their first days: how many windows each holds, and the mosts and the need of the days before
+// it. The mosts up to the last day are `top` in all, and `rest` are the windows that the days after it do not need.
+#[derive(Clone, Copy)]
+struct Runs<'a> {
+    held: &'a [u16],
+    before: &'a [u32],
+    left: &'a [u32],
     top: u32,
     rest: u32,
-    end: u16,
-    latest: &mut [u16],
-) -> bool
-    requires row_len { (length row.now ≡ length before.now) × (length row.now ≡ length left.now) × (length row.now ≡ length latest.old) }
-    requires before_bound { (p : ℕ) → p < length row.now → slice_index before.now p ≤ top }
-    requires left_bound { (p : ℕ) → p < length row.now → slice_index left.now p < 2147483648 }
-    requires end_nonzero { 0 < end }
-    requires latest_bound { (p : ℕ) → p < length row.now → slice_index latest.old p ≤ end }
-    ensures none { result ≡ false → (p : ℕ) → p < length row.now → tight? row.now before.now left.now top rest p ≡ false }
-    ensures marks { (p : ℕ) → p < length row.now → slice_index latest.new p ≡ (if tight? row.now before.now left.now top rest p then end else slice_index latest.old p) }
-{
-    let mut seen: u16 = 0;
-    for p in 0..row.len() {
-        let held = row[p] as u32;
-        let mark = end_if_tight(held, top - before[p], left[p] + held, rest, end);
-        latest[p] = later(latest[p], mark);
-        seen = later(seen, mark);
-    }
-    seen > 0
+    ghost one_len: { (length held.now ≡ length before.now) × (length held.now ≡ length left.now) },
+    ghost before_bound: { (p : ℕ) → p < length held.now → slice_index before.now p ≤ top },
+    ghost left_bound: { (p : ℕ) → p < length held.now → slice_index left.now p < 2147483648 },
 }
 
-// The first of a row's runs that is tight, by its first day, or the end of the runs where none is.
-fn first_tight(row: &[u16], before: &[u32], left: &[u32], top: u32, rest: u32, end: u16) -> u16
-    requires row_len { (length row.now ≡ length before.now) × (length row.now ≡ length left.now) × (length row.now ≡ end) }
-    requires before_bound { (p : ℕ) → p < length row.now → slice_index before.now p ≤ top }
-    requires left_bound { (p : ℕ) → p < length row.now → slice_index left.now p < 2147483648 }
-    ensures none { (p : ℕ) → p < result → p < length row.now → tight? row.now before.now left.now top rest p ≡ false }
-    ensures one { result < end → tight? row.now before.now left.now top rest result ≡ true }
-    ensures within { result ≤ end }
-{
-    for p in 0..row.len() {
-        let held = row[p] as u32;
-        if is_tight(held, top - before[p], left[p] + held, rest) {
-            return p as u16;
+impl Runs<'_> {
+    ghost use Rattle.narrowing.specs.Tight.{tight_at, FirstTight};
+
+    // What a run holds is all its room, or comes with the need before it to all that the days after leave.
+    fn is_tight(&self, p: usize) -> bool
+        requires { p < length self.now.held.now }
+        ensures { result ≡ tight_at self.now p }
+    {
+        let held = self.held[p] as u32;
+        (held == self.top - self.before[p]) | (self.left[p] + held == self.rest)
+    }
+
+    // Writes the end of the runs wherever one is tight, and says whether one is.
+    fn mark(&self, end: u16, latest: &mut [u16]) -> bool
+        requires { length latest.old ≡ length self.now.held.now }
+        ensures none { result ≡ false → (p : ℕ) → p < length self.now.held.now → tight_at self.now p ≡ false }
+        ensures marks { (p : ℕ) → p < length self.now.held.now → slice_index latest.new p ≡ (if tight_at self.now p then end else slice_index latest.old p) }
+    {
+        let mut seen = false;
+        for (p, last) in latest.iter_mut().enumerate() {
+            let tight = self.is_tight(p);
+            *last = if tight { end } else { *last };
+            seen |= tight;
         }
+        seen
     }
-    end
-}
 
-// Both; most rows have no tight run, and are gone through once.
-fn tight_row(
-    row: &[u16],
-    before: &[u32],
-    left: &[u32],
-    top: u32,
-    rest: u32,
-    end: u16,
-    latest: &mut [u16],
-) -> u16
-    requires row_len { (length row.now ≡ length before.now) × (length row.now ≡ length left.now) × (length row.now ≡ length latest.old) × (length row.now ≡ end) }
-    requires before_bound { (p : ℕ) → p < length row.now → slice_index before.now p ≤ top }
-    requires left_bound { (p : ℕ) → p < length row.now → slice_index left.now p < 2147483648 }
-    requires end_nonzero { 0 < end }
-    requires latest_bound { (p : ℕ) → p < length row.now → slice_index latest.old p ≤ end }
-    ensures none { (p : ℕ) → p < result → p < length row.now → tight? row.now before.now left.now top rest p ≡ false }
-    ensures one { result < end → tight? row.now before.now left.now top rest result ≡ true }
-    ensures within { result ≤ end }
-    ensures marks { (p : ℕ) → p < length row.now → slice_index latest.new p ≡ (if tight? row.now before.now left.now top rest p then end else slice_index latest.old p) }
-{
-    if mark_tight(row, before, left, top, rest, end, latest) {
-        first_tight(row, before, left, top, rest, end)
-    } else {
-        end
+    // The first day of the first tight run.
+    fn first_tight(&self) -> Option<usize>
+        ensures { FirstTight self.now result }
+    {
+        (0..self.held.len()).find(|p| self.is_tight(*p))
+    }
+
+    // Both; most rows have no tight run, and are gone through once.
+    fn mark_and_find(&self, end: u16, latest: &mut [u16]) -> Option<usize>
+        requires { length latest.old ≡ length self.now.held.now }
+        ensures first { FirstTight self.now result }
+        ensures marks { (p : ℕ) → p < length self.now.held.now → slice_index latest.new p ≡ (if tight_at self.now p then end else slice_index latest.old p) }
+    {
+        if self.mark(end, latest) {
+            self.first_tight()
+        } else {
+            None
+        }
     }
 }
 
@@ -123,14 +88,16 @@ pub(crate) fn tight_ends(
     ensures late { LatestOf pairs.now table.now left.now right.now windows latest.new }
 {
     for v in 0..pairs.len() {
-        earliest[v + 1] = tight_row(
-            row(table, v),
-            &before[..v + 1],
-            &left[..v + 1],
-            before[v + 1],
-            windows - right[v + 1],
-            v as u16 + 1,
-            &mut latest[..v + 1],
-        );
+        let end = v as u16 + 1;
+        let runs = Runs {
+            held: row(table, v),
+            before: &before[..v + 1],
+            left: &left[..v + 1],
+            top: before[v + 1],
+            rest: windows - right[v + 1],
+        };
+        earliest[v + 1] = runs
+            .mark_and_find(end, &mut latest[..v + 1])
+            .map_or(end, |p| p as u16);
     }
 }

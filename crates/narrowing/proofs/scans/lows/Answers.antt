@@ -1,4 +1,4 @@
-use Rattle.std.proofs.Common.{◌≡◌, ℕ, ◌+◌, ◌-◌, ◌*◌, ◌<◌, ◌≤◌, cond, leb, List, length, get_or, take, set, sym, ap, ◌∙◌, inl, inr, arith}
+use Rattle.std.proofs.Common.{◌≡◌, ℕ, ◌+◌, ◌-◌, ◌*◌, ◌<◌, ◌≤◌, cond, leb, List, length, get_or, take, set, sym, ap, ◌∙◌, inl, inr, arith, rules}
 use Rattle.std.proofs.lemmas.List.{get_or-set_same, get_or-set_other, length-set}
 use Rattle.std.proofs.lemmas.Bool.{cases_lt, cases_eq}
 use Rattle.narrowing.specs.Counting.{tabled}
@@ -7,8 +7,8 @@ use Rattle.narrowing.proofs.ScanSteps.{low_one, low_more, either_way}
 use Rattle.narrowing.proofs.Parts.{part_length, put, put_same, put_low, front_length, front_at, over_length, over_low}
 use Rattle.narrowing.proofs.scans.lows.Goals as goal
 
-pub low_step-requires : goal.low_step-requires
-low_step-requires c =
+pub step-requires-clause-row_len : goal.step-requires-clause-row_len
+step-requires-clause-row_len c =
     let b : ℕ = c.loop-b.b in
     let ls = c.loop-b.low in
     let n = part_length c.loop-b.table b (omega arith) (omega arith) in
@@ -22,15 +22,20 @@ loop-b-preserved c =
     let xs = c.loop-b.table in
     let os : List ℕ = c.loop-b.low in
     let ls : List ℕ = set os b b in
-    let new : List ℕ = c.low_step.new.low in
-    let row : List ℕ = c.low_step.new.row in
+    let new : List ℕ = c.step.new.found in
+    let row : List ℕ = c.step.new.row in
     let lt : b < 128 = omega arith in
     let len : length xs ≡ 16384 = omega arith in
     let ol : length ls ≡ 128 = length-set os b b ∙ c.loop-b.invariant.0 in
     let n = part_length xs b len lt in
     let m = front_length ls b 128 ol lt in
-    let rl : length row ≡ b + 1 = c.low_step.auto.row ∙ n in
-    let nl : length new ≡ b + 1 = c.low_step.auto.low ∙ m in
+    let rl : length row ≡ b + 1 = c.step.auto.row ∙ n in
+    let nl : length new ≡ b + 1 = c.step.auto.found ∙ m in
+    let stepped : (a : ℕ) → a ≤ b → get_or new a 0 ≡ cond (leb (f b) (get_or (take (b + 1) ls) a 0)) b (get_or (take (b + 1) ls) a 0) = λ a h.
+    let e = c.step.ensures.found a (omega arith) in
+    let p = e.1.1 in
+    let t : e.1.0 ≡ leb (f b) (get_or (take (b + 1) ls) a 0) = search rules in
+    e.1.2 ∙ ap (λ t. cond t b (get_or (take (b + 1) ls) a 0)) t in
     let is : (a : ℕ) → a ≤ b → cond (leb (f b) (get_or (take (b + 1) ls) a 0)) b (get_or (take (b + 1) ls) a 0) ≡ low_day f a b = λ a h.
     elim (cases_eq a b) [
       | inl e ↦
@@ -47,11 +52,11 @@ loop-b-preserved c =
         | inr g ↦
             let e : j ≡ b = omega arith in
             let q : a ≤ b = omega arith in
-            ap (λ i. get_or (put xs b row) (i * 128 + a) 0) e ∙ put_same xs row b a len lt rl q ∙ c.low_step.ensures.row a (omega arith) ∙ is a q
+            ap (λ i. get_or (put xs b row) (i * 128 + a) 0) e ∙ put_same xs row b a len lt rl q ∙ c.step.ensures.row a (omega arith) ∙ stepped a q ∙ is a q
             ∙ ap (low_day f a) (sym e)
       ]),
       (λ a j h l.
           let e : j ≡ b = omega arith in
           let q : a ≤ b = omega arith in
-          over_low ls new b a nl q ∙ c.low_step.ensures.low a (omega arith) ∙ is a q ∙ ap (low_day f a) (sym e)),
+          over_low ls new b a nl q ∙ stepped a q ∙ is a q ∙ ap (low_day f a) (sym e)),
     )

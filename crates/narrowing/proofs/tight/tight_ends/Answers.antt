@@ -1,4 +1,4 @@
-use Rattle.std.proofs.Common.{◌≡◌, ℕ, suc, ◌+◌, ◌-◌, ◌<◌, ◌≤◌, Bool, true, false, cond, List, ◌++◌, length, get_or, take, drop, set, sym, ap, ◌∙◌, subst, inl, inr, add-one, arith}
+use Rattle.std.proofs.Common.{◌≡◌, ℕ, suc, ◌+◌, ◌-◌, ◌<◌, ◌≤◌, Bool, true, false, cond, MatchOption, List, ◌++◌, length, get_or, take, drop, set, sym, ap, ◌∙◌, subst, inl, inr, add-one, arith, rules}
 use Rattle.std.proofs.lemmas.List.{get_or-set_same, get_or-set_other, length-set}
 use Rattle.std.proofs.lemmas.Bool.{cases_lt, both_ways}
 use Rattle.plans.specs.Plans.{Window, most}
@@ -8,27 +8,24 @@ use Rattle.plans.proofs.Windows.{total_grows}
 use Rattle.narrowing.specs.Counting.{Counted, tabled}
 use Rattle.narrowing.specs.Scanning.{tight?}
 use Rattle.narrowing.proofs.Parts.{front_length, front_at, over_length, over_low, over_high}
-use Rattle.narrowing.proofs.TightEnds.{tells_tight, EarlyTo, early_more, early_all, LateTo, late_more, late_all}
+use Rattle.narrowing.proofs.TightEnds.{tells_tight, first_or, EarlyTo, early_more, early_all, LateTo, late_more, late_all}
 use Rattle.narrowing.proofs.tight.tight_ends.Goals as goal
 
-pub overflow_sub-windows : goal.overflow_sub-windows
-overflow_sub-windows c = omega (arith, c.requires.needs_meet (c.loop-v.v + 1) (omega arith))
+pub overflow_sub-runs : goal.overflow_sub-runs
+overflow_sub-runs c = omega (arith, c.requires.needs_meet (c.loop-v.v + 1) (omega arith))
 
-pub tight_row-requires : goal.tight_row-requires
-tight_row-requires c =
+pub invariant_of-runs : goal.invariant_of-runs
+invariant_of-runs c =
     let b : ℕ = c.loop-v.v in
     let us : ℕ → ℕ = most c.args.pairs.now in
     let ys = c.args.before.now in
     let zs = c.args.left.now in
     let n = c.row.ensures.long in
     let my = front_length ys b 129 (omega arith) (omega arith) in
-    let mz = front_length zs b 129 (omega arith) (omega arith) in
-    let ml = front_length c.loop-v.latest b 129 c.loop-v.invariant.3 (omega arith) in record {
-      row_len = (n ∙ sym my, n ∙ sym mz, n ∙ sym ml, n);
+    let mz = front_length zs b 129 (omega arith) (omega arith) in record {
+      one_len = (n ∙ sym my, n ∙ sym mz);
       before_bound = (λ p h. omega (arith, front_at ys b p (omega arith), c.requires.summed p (omega arith), c.requires.summed (b + 1) (omega arith), total_grows us p (b + 1) (omega arith)));
       left_bound = (λ p h. omega (arith, front_at zs b p (omega arith), c.requires.needs_meet p (omega arith), c.requires.pairs_len_bound));
-      end_nonzero = omega arith;
-      latest_bound = (λ p h. omega (arith, front_at c.loop-v.latest b p (omega arith), c.loop-v.invariant.1 p));
     }
 
 pub loop-v-init : goal.loop-v-init
@@ -54,23 +51,25 @@ loop-v-preserved c =
     let N : ℕ → ℕ = tabled rs in
     let es : List ℕ = c.loop-v.earliest in
     let ls : List ℕ = c.loop-v.latest in
-    let new : List ℕ = c.tight_row.new.latest in
-    let x : ℕ = c.tight_row.result in
+    let new : List ℕ = c.mark_and_find.new.latest in
+    let x : ℕ = c.map_or.result in
     let top : ℕ = get_or ys (b + 1) 0 in
     let rest : ℕ = c.args.windows - get_or rs (b + 1) 0 in
     let row = c.row.result.now in
     let n = c.row.ensures.long in
     let ml : length (take (b + 1) ls) ≡ b + 1 = front_length ls b 129 c.loop-v.invariant.3 (omega arith) in
-    let nl : length new ≡ b + 1 = c.tight_row.auto.latest ∙ ml in
+    let nl : length new ≡ b + 1 = c.mark_and_find.auto.latest ∙ ml in
     let el : length es ≡ 129 = c.loop-v.invariant.2 in
     let t : ℕ → Bool = tight? row (take (b + 1) ys) (take (b + 1) zs) top rest in
+    let from : MatchOption c.mark_and_find.result (x ≡ b + 1) (λ i. x ≡ i) = search rules in
+    let first = first_or t (length row) (b + 1) x c.mark_and_find.result c.mark_and_find.ensures.first from in
     let tot : total us (b + 1) ≡ total us (suc b) = ap (total us) (add-one b) in
     let nx : get_or rs (b + 1) 0 ≡ N (suc b) = ap N (add-one b) in
     let m : ℕ → ℕ = tabled (set es (b + 1) x) in
     let l : ℕ → ℕ = tabled (new ++ drop (b + 1) ls) in
     let here : m (suc b) ≡ x = ap m (sym (add-one b)) ∙ get_or-set_same es (b + 1) x 0 (omega arith) in
     let wrote : (p : ℕ) → p ≤ b → l p ≡ cond (t p) (suc b) (tabled ls p) = λ p h.
-    over_low ls new b p nl h ∙ c.tight_row.ensures.marks p (omega arith) ∙ ap (λ e. cond (t p) e (get_or (take (b + 1) ls) p 0)) (add-one b)
+    over_low ls new b p nl h ∙ c.mark_and_find.ensures.marks p (omega arith) ∙ ap (λ e. cond (t p) e (get_or (take (b + 1) ls) p 0)) (add-one b)
     ∙ ap (cond (t p) (suc b)) (front_at ls b p h) in
     let kept : (p : ℕ) → b < p → l p ≡ tabled ls p = λ p h. over_high ls new b p nl h in
     let more : (k : ℕ) (ws : List Window) → Counted k (length ps) ws c.args.table.now → length ws ≡ c.args.windows
@@ -84,10 +83,10 @@ loop-v-preserved c =
     let T : ℕ → Type 0 = λ p. Tight k ps ws M N p (suc b) in (
       early_more k ps ws M N b (tabled es) m old.0 (λ q h. get_or-set_other es (b + 1) q x 0 (omega arith))
           (λ p h ti. elim (cases_lt p x) [
-            | inl i ↦ absurd (both_ways (t p) (c.tight_row.ensures.none p i (omega arith)) ((is p h).1 ti))
+            | inl i ↦ absurd (both_ways (t p) (first.0 p i (omega arith)) ((is p h).1 ti))
             | inr i ↦ omega (arith, here)
           ])
-          (λ lt. let lx : x < b + 1 = omega (arith, here) in subst T (sym here) ((is x (omega arith)).0 (c.tight_row.ensures.one lx))),
+          (λ lt. let lx : x < b + 1 = omega (arith, here) in subst T (sym here) ((is x (omega arith)).0 (first.1 lx))),
       late_more k ps ws M N b (tabled ls) l t old.1 is wrote kept,
     ) in
     let P : ℕ → Type 0 = λ n. (k : ℕ) (ws : List Window) → Counted k (length ps) ws c.args.table.now → length ws ≡ c.args.windows
