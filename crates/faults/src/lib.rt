@@ -3,6 +3,7 @@
 
 ghost use Rattle.std.specs.Prelude.{◌≡◌};
 ghost use Rattle.faults.specs.Faults.{check_number, number_of, place_of, counts_of, layer_of};
+ghost use Rattle.faults.specs.declared.Cause.TheVariants.{Failed, Engine};
 
 use records::NarrowingFault;
 
@@ -42,6 +43,35 @@ pub enum Cause {
 pub struct BookFault {
     pub cause: Cause,
     pub subject: u16,
+}
+
+impl From<Check> for Cause {
+    ghost from_gives = { λ check cause. cause ≡ Failed check };
+
+    fn from(check: Check) -> Cause {
+        Cause::Failed(check)
+    }
+}
+
+impl From<NarrowingFault> for Cause {
+    ghost from_gives = { λ fault cause. cause ≡ Engine fault };
+
+    fn from(fault: NarrowingFault) -> Cause {
+        Cause::Engine(fault)
+    }
+}
+
+impl BookFault {
+    // A refusal for a check or a fault of the engine, with what it is about.
+    pub fn about<C: Into<Cause>>(subject: u16, cause: C) -> BookFault
+        ensures cause { C.converts cause result.cause }
+        ensures subject { result.subject ≡ subject }
+    {
+        BookFault {
+            cause: cause.into(),
+            subject,
+        }
+    }
 }
 
 impl Check {

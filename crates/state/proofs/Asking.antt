@@ -1,32 +1,27 @@
 -- From the checks and the weighing to the answer of a call that takes no marks.
-use Rattle.std.proofs.Common.{◌≡◌, ℕ, ◌+◌, ◌<◌, ◌≤◌, Bool, true, false, cond, ltb, leb, List, [], ◌∷◌, length, Some, None, Ok, Err, Option, Result, sym, refl, ap, ◌∙◌, subst, arith}
+use Rattle.std.proofs.Common.{◌≡◌, ℕ, ◌+◌, ◌<◌, ◌≤◌, true, false, cond, ltb, leb, List, [], ◌∷◌, length, Some, None, Ok, Err, Option, Result, sym, refl, ap, ◌∙◌, subst, arith}
 use Rattle.std.proofs.lemmas.List.{length-map}
-use Rattle.std.proofs.lemmas.Bool.{both_ways, or_parts, leb-false, ltb-false, le-leb, lt-ltb}
+use Rattle.std.proofs.lemmas.Bool.{both_ways, or_parts, not-false, leb-false, ltb-false, le-leb, lt-ltb}
 use Rattle.std.specs.Option.{option_map}
 use Rattle.plans.specs.Plans.{Window, Pair}
 use Rattle.plans.specs.Narrowing.{window as window_at, narrowed_at, narrowed, supported}
 use Rattle.plans.specs.Replies.{Reply as Weight, Reply.accepted, Reply.overfull, Reply.short}
-use Rattle.records.specs.declared.fault.NarrowingFault.{NarrowingFault}
-use Rattle.records.specs.declared.fault.NarrowingFault.TheVariants.{Overfull, Short}
-use Rattle.records.specs.Checks.{Outcome, checked}
+use Rattle.records.specs.Checks.{checked}
 use Rattle.narrowing.specs.Support.{Support, askable, support_of}
-use Rattle.narrowing.specs.Verdict.{told as heard}
 use Rattle.orders.specs.Lists.{place_in}
 use Rattle.ledger.specs.Orders.{Order, holds, place}
 use Rattle.ledger.specs.Ledger.{Calendar, Ledger, begun_at, pairs, windows, weigh, days_of, may_have}
 use Rattle.ledger.specs.Calls.{Call, Call.douse, edits, subject, with_light, bad_day, checks, first_fault}
-use Rattle.ledger.specs.Replies.{Reply, Reply.done, Reply.days, told, weighed, settled, reply, ledger_after}
+use Rattle.ledger.specs.Replies.{Reply, Reply.done, told, weighed, settled, reply, ledger_after}
 use Rattle.ledger.specs.Law.{Passes}
+use Rattle.ledger.proofs.Checks.{clear}
 use Rattle.ledger.proofs.Days.{map_from_at, pairs_long}
 use Rattle.orders.proofs.Edits.{found as at_place}
-use Rattle.faults.specs.Faults.{check_number}
-use Rattle.state.specs.Answers.{failed, plainly, douse_reply, horizon_marks}
-use Rattle.state.specs.Weights.{checked_about, fault_about, answer_of, quiet, refusal_in, Settles}
-use Rattle.faults.specs.declared.Check.{Check}
-use Rattle.faults.specs.declared.Cause.TheVariants.{Failed, Engine}
+use Rattle.state.specs.Answers.{plainly, douse_reply, horizon_marks}
+use Rattle.state.specs.Weights.{answer_of, quiet, refusal_in, Settles}
 use Rattle.faults.specs.declared.BookFault.{BookFault}
 use Rattle.state.proofs.Weighing.{Alike, Alike.both_accepted, Alike.both_overfull, Alike.both_short, weights_alike}
-use Rattle.state.proofs.Settling.{reply_faulty, reply_weighed, ledger_refused, no_fault, ledger_settled}
+use Rattle.state.proofs.Settling.{reply_weighed, ledger_settled}
 
 -- The reply that was found, else what the call tells.
 abbrev pub or_else : Option Reply → Reply → Reply
@@ -52,20 +47,7 @@ pub reply_quiet : (c : Calendar) (L M : Ledger) (k : Call) → edits k ≡ false
     → reply c L k [] ≡ or_else (quiet (subject L k) (weigh c M [])) (told c L k)
 reply_quiet c L M k q e w = reply_weighed c L k [] M e w ∙ settled_quiet k (subject L k) L.today [] (told c L k) (weigh c M []) q
 
--- A check that failed.
-pub reply_failed : (c : Calendar) (L : Ledger) (k : Call) (r : Result (Unit {0}) Check) → failed r ≡ first_fault (checks L k) → (fault : BookFault)
-    → checked_about (subject L k) r ≡ Err fault → (plainly fault ≡ reply c L k []) × (L ≡ ledger_after c L k)
-reply_failed c L k (Ok _) f fault i = let z : ◌≡◌ {A = ℕ} 0 1 = cc in absurd (omega arith)
-reply_failed c L k (Err check) f fault i =
-    let q : fault_about (subject L k) (Failed check) ≡ fault = cc in
-    (subst (λ x. plainly x ≡ reply c L k []) q (sym (reply_faulty c L k [] (check_number check) (sym f))), ledger_refused c L k (check_number check) (sym f))
-
--- The engine's refusal.
-refused_quiet : (about : ℕ) (W : Weight) (fault : BookFault) → Err fault ≡ answer_of about W → Some (plainly fault) ≡ quiet about W
-refused_quiet about accepted fault e = let z : ◌≡◌ {A = ℕ} 0 1 = cc in absurd (omega arith)
-refused_quiet about (overfull run w m) fault e = ap (refusal_in {A = Unit {0}}) e
-refused_quiet about (short w f) fault e = ap (refusal_in {A = Unit {0}}) e
-
+-- The engine's answer.
 pub answer_quiet : (about : ℕ) (W : Weight) (r : Result (Unit {0}) BookFault) → r ≡ answer_of about W → refusal_in r ≡ quiet about W
 answer_quiet about accepted r e = ap refusal_in e
 answer_quiet about (overfull run w m) r e = ap refusal_in e
@@ -83,29 +65,14 @@ doused : (r : Result (Unit {0}) BookFault) → douse_reply r ≡ or_else (refusa
 doused (Ok _) = refl
 doused (Err fault) = refl
 
-pub douses_to : (c : Calendar) (L : Ledger) (d : ℕ) (q : Result (Unit {0}) Check) → failed q ≡ first_fault (checks L (douse d)) → checked_about d q ≡ Ok tt
-    → (M N : Ledger) (r : Result (Unit {0}) BookFault) (ms ms' : List ℕ) → M ≡ with_light d false L → Settles c L M d r ms ms' N
-    → (douse_reply r ≡ reply c L (douse d) []) × (N ≡ ledger_after c L (douse d))
-douses_to c L d q f i M N r ms ms' m S =
+pub douses_to : (c : Calendar) (L : Ledger) (d : ℕ) → Passes L (douse d) → (M N : Ledger) (r : Result (Unit {0}) BookFault) (ms ms' : List ℕ)
+    → M ≡ with_light d false L → Settles c L M d r ms ms' N → (douse_reply r ≡ reply c L (douse d) []) × (N ≡ ledger_after c L (douse d))
+douses_to c L d pass M N r ms ms' m S =
     let K : Ledger = with_light d false L in
     let hm : List ℕ = horizon_marks ms' in
     let T : Settles c L K d r ms ms' N = subst (λ x. Settles c L x d r ms ms' N) m S in
-    let none = no_fault d q (first_fault (checks L (douse d))) f i in
     let a : refusal_in r ≡ quiet d (weigh c K []) = answer_quiet d (weigh c K hm) r T.answer ∙ quiet_same c K d hm in
-    (doused r ∙ ap (λ x. or_else x done) a ∙ sym (reply_quiet c L K (douse d) refl none refl), ledger_settled c L K N (douse d) hm none refl refl refl T.ledger)
-
--- The engine's answer without marks.
-pub weighed_ok : (about : ℕ) (W : Weight) (r : Outcome) (u : Unit {0}) → r ≡ heard W → r ≡ Ok u → None ≡ quiet about W
-weighed_ok about accepted r u e f = refl
-weighed_ok about (overfull run w m) r u e f = let z : ◌≡◌ {A = ℕ} 0 1 = cc in absurd (omega arith)
-weighed_ok about (short w m) r u e f = let z : ◌≡◌ {A = ℕ} 0 1 = cc in absurd (omega arith)
-
-pub weighed_err : (about : ℕ) (W : Weight) (r : Outcome) (fault : NarrowingFault) → r ≡ heard W → r ≡ Err fault
-    → Some (plainly (fault_about about (Engine fault))) ≡ quiet about W
-weighed_err about accepted r fault e f = let z : ◌≡◌ {A = ℕ} 0 1 = cc in absurd (omega arith)
-weighed_err about (overfull run w m) r fault e f =
-    let z : Overfull w m ≡ fault = cc in ap (λ x. Some (plainly (fault_about about (Engine x)))) (sym z)
-weighed_err about (short w m) r fault e f = let z : Short w m ≡ fault = cc in ap (λ x. Some (plainly (fault_about about (Engine x)))) (sym z)
+    (doused r ∙ ap (λ x. or_else x done) a ∙ sym (reply_quiet c L K (douse d) refl pass refl), ledger_settled c L K N (douse d) hm pass refl refl refl T.ledger)
 
 -- A question past its checks.
 module _ (c : Calendar) (L : Ledger) (k : Call) (q : edits k ≡ false) (pass : Passes L k) (w : weighed L k ≡ Some L) where
@@ -119,28 +86,20 @@ pub place_below : (n : ℕ) (os : List Order) → holds n os ≡ true → place 
 place_below n [] h = absurd (both_ways false refl h)
 place_below n (o ∷ os) h = grind (arith, place_below n os)
 
+-- The place of an order that is held.
+pub placed : (n : ℕ) {os ps : List Order} → holds n ps ≡ true → os ≡ ps → place_in n os ≡ Some (place n ps)
+placed n {ps = ps} h e = ap (place_in n) e ∙ ap (λ b. cond b (Some (place n ps)) None) h
+
 -- The days that an order is told.
-module _ (c : Calendar) (L : Ledger) (n : ℕ) (h : holds n L.held ≡ true) (os : List Order) (same : os ≡ L.held) where
-  placed : place_in n os ≡ Some (place n L.held)
-  placed = ap (place_in n) same ∙ ap (λ b. cond b (Some (place n L.held)) None) h
-
-  pub told_some : (ws : List Window) → ws ≡ narrowed L.today (pairs c L) (windows L) → (w : Window) → Some w ≡ option_map (window_at ws) (place_in n os)
-      → days w.0 w.1 ≡ told c L (Call.window n)
-  told_some ws e w f =
-      let i : ℕ = place n L.held in
-      let x : Some w ≡ Some (window_at ws i) = f ∙ ap (option_map (window_at ws)) placed in
-      let y : w ≡ window_at ws i = cc in
-      let l : i < length (windows L) = omega (arith, place_below n L.held h, length-map L.held (begun_at L.today)) in
-      let z : 0 + i ≡ i = omega arith in
-      let v : w ≡ days_of c L n =
-      y ∙ ap (λ t. window_at t i) e ∙ map_from_at (narrowed_at L.today (pairs c L) (windows L)) 0 (length (windows L)) i (0, 0) l
-      ∙ ap (narrowed_at L.today (pairs c L) (windows L)) z in
-      ap (λ (p : Window). days p.0 p.1) v
-
-  pub told_none : (ws : List Window) → None ≡ option_map (window_at ws) (place_in n os) → ⊥
-  told_none ws f =
-      let x : None ≡ Some (window_at ws (place n L.held)) = f ∙ ap (option_map (window_at ws)) placed in
-      let z : ◌≡◌ {A = ℕ} 0 1 = cc in omega arith
+pub told_days : (c : Calendar) (L : Ledger) (n : ℕ) → holds n L.held ≡ true → (os : List Order) (ws : List Window) → os ≡ L.held
+    → ws ≡ narrowed L.today (pairs c L) (windows L) → option_map (window_at ws) (place_in n os) ≡ Some (days_of c L n)
+told_days c L n h os ws f e =
+    let i : ℕ = place n L.held in
+    let l : i < length (windows L) = omega (arith, place_below n L.held h, length-map L.held (begun_at L.today)) in
+    let z : 0 + i ≡ i = omega arith in
+    ap (option_map (window_at ws)) (placed n h f)
+    ∙ ap Some (ap (λ t. window_at t i) e ∙ map_from_at (narrowed_at L.today (pairs c L) (windows L)) 0 (length (windows L)) i (0, 0) l
+    ∙ ap (narrowed_at L.today (pairs c L) (windows L)) z)
 
 -- Whether a day is possible for an order.
 module _ (c : Calendar) (L : Ledger) (n i d : ℕ) (found : Some i ≡ place_in n L.held) (day : bad_day L d ≡ false) (few : length L.held ≤ 512)
@@ -157,22 +116,9 @@ module _ (c : Calendar) (L : Ledger) (n i d : ℕ) (found : Some i ≡ place_in 
       let over : checked L.today (pairs c L) (windows L) (length (pairs c L)) ≡ Ok tt = ap (checked L.today (pairs c L) (windows L)) (pairs_long c L) ∙ pass in
       f ∙ ap (λ x. support_of L.today x (windows L) i d 512) e ∙ rw (over, ask) (ap (λ j. Ok (supported L.today (pairs c L) (windows L) j d)) p.0)
 
-pub window_passes : (L : Ledger) (n : ℕ) → holds n L.held ≡ true → Passes L (Call.window n)
-window_passes L n h = rw h
+-- What the checks of the two questions leave.
+pub window_held : (L : Ledger) (n : ℕ) → Passes L (Call.window n) → holds n L.held ≡ true
+window_held L n e = not-false (holds n L.held) (clear (checks L (Call.window n)) e).0
 
-held_there : (n i : ℕ) (os : List Order) → Some i ≡ place_in n os → holds n os ≡ true
-held_there n i os e = go (holds n os) e
-  where
-    go : (b : Bool) → Some i ≡ cond b (Some (place n os)) None → b ≡ true
-    go true e = refl
-    go false e = let z : ◌≡◌ {A = ℕ} 0 1 = cc in absurd (omega arith)
-
-pub probe_passes : (L : Ledger) (n i d : ℕ) → Some i ≡ place_in n L.held → bad_day L d ≡ false → Passes L (Call.probe n d)
-probe_passes L n i d f g = rw (held_there n i L.held f, g)
-
--- One answer.
-pub ok_not_err : {T E : Type 0} (r : Result T E) (x : T) (y : E) → r ≡ Ok x → r ≡ Err y → ⊥
-ok_not_err r x y e f = let z : ◌≡◌ {A = ℕ} 0 1 = cc in omega arith
-
-pub ok_same : {T E : Type 0} (r : Result T E) (x y : T) → r ≡ Ok x → r ≡ Ok y → y ≡ x
-ok_same r x y e f = cc
+pub probe_held : (L : Ledger) (n d : ℕ) → Passes L (Call.probe n d) → (holds n L.held ≡ true) × (bad_day L d ≡ false)
+probe_held L n d e = let q = clear (checks L (Call.probe n d)) e in (not-false (holds n L.held) q.0, q.1.0)

@@ -1,17 +1,15 @@
 -- From the engine's answer to the weighing of a ledger.
-use Rattle.std.proofs.Common.{◌≡◌, ℕ, List, length, take, Ok, Err, sym, refl, ap, ◌∙◌, subst, arith}
+use Rattle.std.proofs.Common.{◌≡◌, ℕ, List, length, take, Ok, Err, Result, sym, refl, ap, ◌∙◌, subst}
 use Rattle.plans.specs.Plans.{Pair}
 use Rattle.plans.specs.Narrowing.{narrowed}
 use Rattle.plans.specs.Replies.{Reply as Weight, Reply.accepted, Reply.overfull, Reply.short}
-use Rattle.records.specs.declared.fault.NarrowingFault.{NarrowingFault}
-use Rattle.records.specs.declared.fault.NarrowingFault.TheVariants.{Overfull, Short}
 use Rattle.records.specs.Checks.{Outcome, past, checked}
 use Rattle.narrowing.specs.Verdict.{told, Marked, MarkedPast, verdict_of, MarksAfter}
 use Rattle.ledger.specs.Ledger.{Calendar, Ledger, pairs, windows, weigh}
 use Rattle.orders.specs.Tables.{told_after}
 use Rattle.state.specs.Answers.{horizon_marks}
-use Rattle.state.specs.Weights.{fault_about, answer_of, ledger_by, Settles}
-use Rattle.faults.specs.declared.Cause.TheVariants.{Engine}
+use Rattle.state.specs.Weights.{answer_of, ledger_by, Settles}
+use Rattle.faults.specs.declared.BookFault.{BookFault}
 use Rattle.ledger.proofs.Days.{pairs_long}
 
 module _ (c : Calendar) (L : Ledger) (ms ms' : List ℕ) (pass : checked L.today (pairs c L) (windows L) (length ms) ≡ Ok tt) where
@@ -34,26 +32,20 @@ weigh_told c L ps r e f = ap (λ x. told_after x L.today ps (windows L)) f ∙ a
 
 -- Settled by a weighing.
 module _ (c : Calendar) (L M : Ledger) (about : ℕ) (ms ms' : List ℕ)
-    (marks : Marked M.today (pairs c M) (windows M) ms ms' (weigh c M (horizon_marks ms'))) (r : Outcome)
-    (answer : r ≡ told (weigh c M (horizon_marks ms'))) where
-  pub settles_ok : (u : Unit {0}) (N : Ledger) → r ≡ Ok u → N ≡ M → Settles c L M about (Ok tt) ms ms' N
-  settles_ok u N e m = record { answer = both.0; marks = marks; ledger = both.1 }
+    (marks : Marked M.today (pairs c M) (windows M) ms ms' (weigh c M (horizon_marks ms'))) (r : Result (Unit {0}) BookFault)
+    (answer : r ≡ answer_of about (weigh c M (horizon_marks ms'))) where
+  pub settles_ok : (N : Ledger) → r ≡ Ok tt → N ≡ M → Settles c L M about (Ok tt) ms ms' N
+  settles_ok N e m = record { answer = sym e ∙ answer; marks = marks; ledger = go (weigh c M (horizon_marks ms')) (sym answer ∙ e) }
     where
-      go : (W : Weight) → told W ≡ Ok u → (Ok tt ≡ answer_of about W) × (N ≡ ledger_by L M W)
-      go accepted e = (refl, m)
-      go (overfull run w n) e = let z : ◌≡◌ {A = ℕ} 0 1 = cc in absurd (omega arith)
-      go (short w f) e = let z : ◌≡◌ {A = ℕ} 0 1 = cc in absurd (omega arith)
+      go : (W : Weight) → answer_of about W ≡ Ok tt → N ≡ ledger_by L M W
+      go accepted e = m
+      go (overfull run w n) e = cc
+      go (short w f) e = cc
 
-      both : (Ok tt ≡ answer_of about (weigh c M (horizon_marks ms'))) × (N ≡ ledger_by L M (weigh c M (horizon_marks ms')))
-      both = go (weigh c M (horizon_marks ms')) (sym answer ∙ e)
-
-  pub settles_err : (fault : NarrowingFault) → r ≡ Err fault → Settles c L M about (Err (fault_about about (Engine fault))) ms ms' L
-  settles_err fault e = record { answer = both.0; marks = marks; ledger = both.1 }
+  pub settles_err : (fault : BookFault) → r ≡ Err fault → Settles c L M about (Err fault) ms ms' L
+  settles_err fault e = record { answer = sym e ∙ answer; marks = marks; ledger = go (weigh c M (horizon_marks ms')) (sym answer ∙ e) }
     where
-      go : (W : Weight) → told W ≡ Err fault → (Err (fault_about about (Engine fault)) ≡ answer_of about W) × (L ≡ ledger_by L M W)
-      go accepted e = let z : ◌≡◌ {A = ℕ} 0 1 = cc in absurd (omega arith)
-      go (overfull run w n) e = let z : Overfull w n ≡ fault = cc in (ap (λ x. Err (fault_about about (Engine x))) (sym z), refl)
-      go (short w f) e = let z : Short w f ≡ fault = cc in (ap (λ x. Err (fault_about about (Engine x))) (sym z), refl)
-
-      both : (Err (fault_about about (Engine fault)) ≡ answer_of about (weigh c M (horizon_marks ms'))) × (L ≡ ledger_by L M (weigh c M (horizon_marks ms')))
-      both = go (weigh c M (horizon_marks ms')) (sym answer ∙ e)
+      go : (W : Weight) → answer_of about W ≡ Err fault → L ≡ ledger_by L M W
+      go accepted e = cc
+      go (overfull run w n) e = refl
+      go (short w f) e = refl

@@ -5,6 +5,7 @@ pub mod Nearness
 -- The checks and the weighing
 pub mod Passing
 pub mod Weighing
+pub mod Refusing
 pub mod Judging
 -- The answers
 pub mod Settling

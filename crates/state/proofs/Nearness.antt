@@ -8,7 +8,10 @@ use Rattle.plans.specs.Plans.{Window, Pair, from, Assignment}
 use Rattle.records.specs.Checks.{stands, checked}
 use Rattle.ledger.specs.Orders.{Order, enter, rewindow, without, staying}
 use Rattle.ledger.specs.Ledger.{Calendar, Ledger, begun_at, pair_on, pairs, windows}
+use Rattle.orders.proofs.Tables.{long}
 use Rattle.state.specs.Near.{near, near_all}
+use Rattle.state.specs.Model.{ledger_of}
+use Rattle.state.specs.declared.state.State.{State}
 use Rattle.ledger.proofs.Days.{pairs_long}
 
 pub record Near (k : ℕ) (w : Window) : Type 0 where
@@ -101,7 +104,7 @@ pairs_sound f i t (suc n) h =
     let s = h t (omega arith) (omega arith) in
     rw (le-leb (f t).0 (f t).1 s.0, le-leb (f t).1 512 s.1) (pairs_sound f (i + 1) (suc t) n (λ u a b. h u (omega arith) (omega arith)))
 
-pub passes : (c : Calendar) (L : Ledger) (n : ℕ) → ((t : ℕ) → t < 65536 → Sound (c t)) → L.today ≤ 65480 → near_all L.today L.held ≡ true
+passes : (c : Calendar) (L : Ledger) (n : ℕ) → ((t : ℕ) → t < 65536 → Sound (c t)) → L.today ≤ 65480 → near_all L.today L.held ≡ true
     → length L.held ≤ 512 → 56 ≤ n → checked L.today (pairs c L) (windows L) n ≡ Ok tt
 passes c L n s early h few long =
     let k = L.today in
@@ -110,3 +113,11 @@ passes c L n s early h few long =
     let l : length (windows L) ≤ 512 = omega (arith, length-map L.held (begun_at k)) in
     let d : k + 56 - 1 ≤ 65535 = omega arith in
     rw (pairs_long c L, le-leb 56 n long, le-leb (k + 56 - 1) 65535 d, ps, le-leb (length (windows L)) 512 l, ws)
+
+-- The same of a state.
+pub few : (s : State) → length (ledger_of s).held ≤ 512
+few s = omega (arith, long s.table, s.table.few)
+
+pub weighable : (c : Calendar) (s : State) (n : ℕ) → ((t : ℕ) → t < 65536 → Sound (c t)) → 56 ≤ n
+    → checked s.today (pairs c (ledger_of s)) (windows (ledger_of s)) n ≡ Ok tt
+weighable c s n sound h = passes c (ledger_of s) n sound s.early s.near (few s) h

@@ -1,5 +1,5 @@
 -- The first plan of a ledger that has one.
-use Rattle.std.proofs.Common.{◌≡◌, ℕ, ◌-◌, List, [], length, take, replicate, Some, None, Ok, Err, Option, sym, refl, ap, ◌∙◌, subst, arith}
+use Rattle.std.proofs.Common.{◌≡◌, ℕ, ◌-◌, List, [], length, take, replicate, Some, None, Ok, Option, sym, refl, ap, ◌∙◌, subst}
 use Rattle.std.proofs.lemmas.List.{length-map, take_at}
 use Rattle.std.specs.Option.{option_map}
 use Rattle.plans.specs.Plans.{Pair}
@@ -7,7 +7,6 @@ use Rattle.plans.specs.Narrowing.{first_plan}
 use Rattle.plans.specs.Replies.{Reply as Weight, Reply.accepted, Reply.overfull, Reply.short}
 use Rattle.plans.proofs.Replies.{reply_means}
 use Rattle.plans.proofs.First.{first_leads}
-use Rattle.records.specs.declared.fault.NarrowingFault.{NarrowingFault}
 use Rattle.records.specs.Checks.{checked}
 use Rattle.records.proofs.Checked.{passed}
 use Rattle.narrowing.proofs.Meaning.{assigned_long}
@@ -18,8 +17,8 @@ use Rattle.state.specs.Weights.{quiet}
 
 quiet_accepted : (about : ℕ) (W : Weight) → None ≡ quiet about W → W ≡ accepted
 quiet_accepted about accepted e = refl
-quiet_accepted about (overfull run w m) e = let z : ◌≡◌ {A = ℕ} 0 1 = cc in absurd (omega arith)
-quiet_accepted about (short w m) e = let z : ◌≡◌ {A = ℕ} 0 1 = cc in absurd (omega arith)
+quiet_accepted about (overfull run w m) e = cc
+quiet_accepted about (short w m) e = cc
 
 -- A plan has a day for each order.
 pub fits_long : (c : Calendar) (L : Ledger) (ts : List ℕ) → Fits c L ts → length ts ≡ length L.held
@@ -55,13 +54,3 @@ module _ (c : Calendar) (L : Ledger) (about : ℕ) (pass : checked L.today (pair
 
   pub front_planned : take (length L.held) (padded (plan_of c L)) ≡ plan_of c L
   front_planned = take_at (plan_of c L) (replicate (512 - length (plan_of c L)) 0) (length L.held) (fits_long c L (plan_of c L) plan_fits)
-
--- One answer.
-pub none_planned : {o : Option (List ℕ)} {xs : List ℕ} → ◌≡◌ {A = Answer} (Ok o) (Ok (Some xs)) → o ≡ None → ⊥
-none_planned e f = let z : ◌≡◌ {A = ℕ} 0 1 = cc in omega arith
-
-pub fault_planned : {fault : NarrowingFault} {xs : List ℕ} → ◌≡◌ {A = Answer} (Err fault) (Ok (Some xs)) → ⊥
-fault_planned e = let z : ◌≡◌ {A = ℕ} 0 1 = cc in omega arith
-
-pub same_days : {o : Option (List ℕ)} {xs ys : List ℕ} → ◌≡◌ {A = Answer} (Ok o) (Ok (Some ys)) → o ≡ Some xs → xs ≡ ys
-same_days e f = cc

@@ -1,5 +1,5 @@
 -- From the checks and the weighing to the answer of an edit.
-use Rattle.std.proofs.Common.{◌≡◌, ℕ, ◌<◌, ◌≤◌, Bool, true, false, cond, ltb, List, [], ◌++◌, length, take, drop, Some, None, Ok, Err, Option, Result, sym, refl, ap, ◌∙◌, subst, arith}
+use Rattle.std.proofs.Common.{◌≡◌, ℕ, ◌<◌, ◌≤◌, Bool, true, false, cond, ltb, List, [], ◌++◌, length, take, drop, Some, None, Result, sym, refl, ap, ◌∙◌, subst, arith}
 use Rattle.std.proofs.lemmas.List.{length-take-le, take_at, take-append-drop}
 use Rattle.plans.specs.Plans.{Window}
 use Rattle.plans.specs.Sets.{Marks, run_marks, ShowsShortage}
@@ -10,13 +10,10 @@ use Rattle.ledger.specs.Orders.{Order, enter}
 use Rattle.ledger.specs.Ledger.{Calendar, Ledger, pairs, windows, weigh}
 use Rattle.ledger.specs.Calls.{Edit, Edit.admit, Edit.change, Edit.withdraw, Edit.light, Call, Call.edit, edits, edit_subject, subject, edited, made, checks, first_fault}
 use Rattle.ledger.specs.Replies.{Reply, Reply.done, Reply.refused, Reply.lacks, told, weighed, settled, past_weighing, past_checks, reply, number_of, refuses, onto, marks_after, ledger_after}
-use Rattle.faults.specs.Faults.{check_number}
-use Rattle.state.specs.Answers.{failed, edit_reply, horizon_marks, Edits}
-use Rattle.state.specs.Weights.{checked_about, fault_about, answer_of, ledger_by, Settles}
-use Rattle.faults.specs.declared.Check.{Check}
-use Rattle.faults.specs.declared.Check.TheVariants.{NumberZero, NumberHeld, NumberUnknown, BookFull, BadWindow, DayOutside, LitAlready, TooShort, LastDay}
-use Rattle.faults.specs.declared.Cause.TheVariants.{Failed}
+use Rattle.state.specs.Answers.{edit_reply, horizon_marks, Edits, Edited}
+use Rattle.state.specs.Weights.{answer_of, ledger_by, Settles}
 use Rattle.faults.specs.declared.BookFault.{BookFault}
+use Rattle.ledger.specs.Law.{Passes}
 use Rattle.ledger.proofs.Days.{map_from_long, pairs_long}
 use Rattle.state.proofs.Passing.{marks_enough}
 use Rattle.state.proofs.Weighing.{Alike, Alike.both_accepted, Alike.both_overfull, Alike.both_short, weights_alike}
@@ -59,46 +56,6 @@ today_edited (admit n f l) L = refl
 today_edited (change n f l) L = refl
 today_edited (withdraw n) L = refl
 today_edited (light d) L = refl
-
--- An edit that a check refuses.
-module _ (c : Calendar) (L : Ledger) (e : Edit) (r : Result (Unit {0}) Check) (ms : List ℕ) (f : failed r ≡ first_fault (checks L (edit e (length ms)))) where
-  pub refused_edit : (fault : BookFault) → checked_about (edit_subject e) r ≡ Err fault → Edits c L e (Err fault) ms ms
-  refused_edit fault i = go r f i
-    where
-      go : (q : Result (Unit {0}) Check) → failed q ≡ first_fault (checks L (edit e (length ms))) → checked_about (edit_subject e) q ≡ Err fault → Edits c L e (Err fault) ms ms
-      go (Ok _) f i = let z : ◌≡◌ {A = ℕ} 0 1 = cc in absurd (omega arith)
-      go (Err check) f i =
-          let q : fault_about (edit_subject e) (Failed check) ≡ fault = cc in
-          let a : reply c L (edit e (length ms)) (horizon_marks ms) ≡ refused (check_number check) (edit_subject e) = reply_faulty c L (edit e (length ms)) (horizon_marks ms) (check_number check) (sym f) in
-          subst (λ x. Edits c L e (Err x) ms ms) q
-          (record {
-            answer = sym a;
-            set = λ _ n. absurd (early check (ap number_of (sym a) ∙ n));
-            marks = ap (λ x. marks_after x ms) (sym a);
-          })
-        where
-          early : (check : Check) → check_number check ≡ 21 → ⊥
-          early NumberZero n = omega arith
-          early NumberHeld n = omega arith
-          early NumberUnknown n = omega arith
-          early BookFull n = omega arith
-          early BadWindow n = omega arith
-          early DayOutside n = omega arith
-          early LitAlready n = omega arith
-          early TooShort n = omega arith
-          early LastDay n = omega arith
-
-  pub refused_ledger : (fault : BookFault) → checked_about (edit_subject e) r ≡ Err fault → L ≡ ledger_after c L (edit e (length ms))
-  refused_ledger fault i = go r f i
-    where
-      go : (q : Result (Unit {0}) Check) → failed q ≡ first_fault (checks L (edit e (length ms))) → checked_about (edit_subject e) q ≡ Err fault → L ≡ ledger_after c L (edit e (length ms))
-      go (Ok _) f i = let z : ◌≡◌ {A = ℕ} 0 1 = cc in absurd (omega arith)
-      go (Err check) f i = ledger_refused c L (edit e (length ms)) (check_number check) (sym f)
-
--- The checks that were passed.
-pub no_fault : (about : ℕ) (r : Result (Unit {0}) Check) (o : Option ℕ) → failed r ≡ o → checked_about about r ≡ Ok tt → o ≡ None
-no_fault about (Ok _) o e f = sym e
-no_fault about (Err check) o e f = let z : ◌≡◌ {A = ℕ} 0 1 = cc in absurd (omega arith)
 
 -- An edit past its checks.
 module _ (c : Calendar) (L : Ledger) (e : Edit) (ms ms' : List ℕ) (none : first_fault (checks L (edit e (length ms))) ≡ None) (long : 56 ≤ length ms) (same : length ms' ≡ length ms) where
@@ -158,15 +115,13 @@ module _ (c : Calendar) (L : Ledger) (e : Edit) (ms ms' : List ℕ) (none : firs
   pub ledger_by_edit : (r : Result (Unit {0}) BookFault) (N : Ledger) → Settles c L M (edit_subject e) r ms ms' N → N ≡ ledger_after c L (edit e n)
   ledger_by_edit r N S = ledger_settled c L M N (edit e n) hm none refl refl refl S.ledger
 
--- As a program has it: the outcome of the checks, and the ledger that was made.
-pub edits_to : (c : Calendar) (L : Ledger) (e : Edit) (ms ms' : List ℕ) (q : Result (Unit {0}) Check) → failed q ≡ first_fault (checks L (edit e (length ms)))
-    → checked_about (edit_subject e) q ≡ Ok tt → length ms' ≡ length ms → (M N : Ledger) (r : Result (Unit {0}) BookFault) → M ≡ edited e L
-    → Settles c L M (edit_subject e) r ms ms' N → Edits c L e r ms ms' × (N ≡ ledger_after c L (edit e (length ms)))
-edits_to c L e ms ms' q f i same M N r m S =
-    let none = no_fault (edit_subject e) q (first_fault (checks L (edit e (length ms)))) f i in
-    let long = marks_enough L e (length ms) none in
+-- As a program has it: the checks were passed, and the ledger was made.
+pub edits_to : (c : Calendar) (L : Ledger) (e : Edit) (ms ms' : List ℕ) → Passes L (edit e (length ms)) → length ms' ≡ length ms → (M N : Ledger)
+    (r : Result (Unit {0}) BookFault) → M ≡ edited e L → Settles c L M (edit_subject e) r ms ms' N → Edited c L e r ms ms' N
+edits_to c L e ms ms' pass same M N r m S =
+    let long = marks_enough L e (length ms) pass in
     let T : Settles c L (edited e L) (edit_subject e) r ms ms' N = subst (λ x. Settles c L x (edit_subject e) r ms ms' N) m S in
-    (edited_by c L e ms ms' none long same r N T, ledger_by_edit c L e ms ms' none long same r N T)
+    record { told = edited_by c L e ms ms' pass long same r N T; ledger = ledger_by_edit c L e ms ms' pass long same r N T }
 
 -- There is room, so the order is entered.
 pub entered : (os ps : List Order) (o : Order) (r : Bool) → length os < 512 → r ≡ ltb (length os) 512 → ps ≡ cond r (enter o os) os → ps ≡ enter o os

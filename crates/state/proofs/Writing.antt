@@ -1,16 +1,20 @@
 -- From the checks, the weighing and the first plan to the answers of plan and turn.
-use Rattle.std.proofs.Common.{◌≡◌, ℕ, ◌+◌, ◌≤◌, true, cond, leb, List, [], ◌++◌, length, take, drop, Some, None, Ok, Err, sym, refl, ap, ◌∙◌, ap₂, add-one, arith, length-append}
+use Rattle.std.proofs.Common.{◌≡◌, ℕ, suc, ◌+◌, ◌%◌, ◌≤◌, Bool, true, false, cond, leb, List, [], ◌++◌, length, take, drop, set, is_some, Some, None, Ok, Err, Option, sym, refl, ap, ◌∙◌, ap₂, add-one, arith, length-append}
 use Rattle.std.proofs.lemmas.List.{take_at}
 use Rattle.std.proofs.lemmas.Bool.{le-leb}
 use Rattle.ledger.specs.Orders.{Order, leaving, staying}
 use Rattle.ledger.specs.Ledger.{Calendar, Ledger, weigh, Fits, plan_of}
-use Rattle.ledger.specs.Calls.{Call, Call.plan, Call.turn, turned, made}
+use Rattle.ledger.specs.Calls.{Call, Call.plan, Call.turn, switch, turned, made}
 use Rattle.ledger.specs.Replies.{Reply.planned, Reply.out, reply, refuses, onto, list_after, ledger_after}
 use Rattle.ledger.specs.Law.{Passes}
 use Rattle.state.specs.Answers.{plainly, Lists}
+use Rattle.orders.specs.Tables.{held_in}
+use Rattle.state.specs.Model.{lit_by, ledger_of}
 use Rattle.state.specs.Near.{near_all}
+use Rattle.state.specs.declared.state.State.{State}
 use Rattle.state.specs.Weights.{quiet}
 use Rattle.faults.specs.declared.BookFault.{BookFault}
+use Rattle.state.proofs.Slots.{lit_turn}
 use Rattle.state.proofs.Nearness.{near_staying}
 use Rattle.state.proofs.Asking.{ask_told}
 
@@ -56,16 +60,26 @@ module _ (c : Calendar) (L : Ledger) (ns : List ℕ) (pass : Passes L (turn (len
   turn_ledger M m = m ∙ ap (λ r. cond (refuses r) L (turned (plan_of c L) L)) told_out
 
 -- What was let out.
-module _ (os : List Order) (ns : List ℕ) (h : length os ≤ length ns) where
-  pub let_none : (n : ℕ) → None ≡ cond (leb (length os) (length ns)) (Some n) None → ⊥
-  let_none n e =
-      let f : None ≡ Some n = e ∙ ap (λ b. cond b (Some n) None) (le-leb (length os) (length ns) h) in
-      let z : ◌≡◌ {A = ℕ} 0 1 = cc in omega arith
+module _ (os : List Order) (ns : List ℕ) (h : length os ≤ length ns) (n : ℕ) {o : Option ℕ} (e : o ≡ cond (leb (length os) (length ns)) (Some n) None) where
+  pub let_some : o ≡ Some n
+  let_some = e ∙ ap (λ b. cond b (Some n) None) (le-leb (length os) (length ns) h)
 
-  pub let_some : (n m : ℕ) → Some m ≡ cond (leb (length os) (length ns)) (Some n) None → m ≡ n
-  let_some n m e = let f : Some m ≡ Some n = e ∙ ap (λ b. cond b (Some n) None) (le-leb (length os) (length ns) h) in cc
+  pub let_those : {A : Type 0} {x z : A} (y : A) → z ≡ cond (is_some o) x y → z ≡ x
+  let_those {x = x} y f = f ∙ ap (λ p. cond (is_some p) x y) let_some
+
+pub some_same : {A : Type 0} {x y : A} → Some x ≡ Some y → x ≡ y
+some_same e = cc
 
 -- Who stays is near on the next day.
 pub near_next : (c : Calendar) (L : Ledger) → Fits c L (plan_of c L) → near_all L.today L.held ≡ true → (os : List Order)
     → os ≡ staying L.today L.held (plan_of c L) → near_all (L.today + 1) os ≡ true
 near_next c L F h os e = ap₂ near_all (add-one L.today) e ∙ near_staying L.today L.held (plan_of c L) F.assigned h
+
+-- The day turns.
+pub turned_to : (s : State) (i : ℕ) (os : List Order) (ts : List ℕ) → i ≡ s.today → os ≡ staying s.today (held_in s.table) ts
+    → record { today = s.today + 1; lit = lit_by (s.today + 1) (set s.lit (i % 56) false); held = os } ≡ turned ts (ledger_of s)
+turned_to s i os ts n e =
+    let L : ℕ → (ℕ → Bool) → List Order → Ledger = λ t f xs. record { today = t; lit = f; held = xs } in
+    ap (λ j. L (s.today + 1) (lit_by (s.today + 1) (set s.lit (j % 56) false)) os) n
+    ∙ ap (λ d. L d (lit_by d (set s.lit (s.today % 56) false)) os) (add-one s.today) ∙ ap (λ f. L (suc s.today) f os) (lit_turn s.today s.lit s.slots)
+    ∙ ap (L (suc s.today) (switch s.today false (ledger_of s).lit)) e

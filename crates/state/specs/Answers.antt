@@ -4,7 +4,7 @@ use Rattle.records.specs.declared.fault.NarrowingFault.{NarrowingFault}
 use Rattle.records.specs.declared.fault.NarrowingFault.TheVariants.{BadRange, BadPair, TooManyRecords, BadWindow, Overfull, Short}
 use Rattle.ledger.specs.Ledger.{Calendar, Ledger, horizon}
 use Rattle.ledger.specs.Calls.{Edit, Call, Call.edit}
-use Rattle.ledger.specs.Replies.{Reply, Reply.done, Reply.days, Reply.says, Reply.planned, Reply.out, Reply.refused, Reply.lacks, reply, Allowed, marks_after, list_after}
+use Rattle.ledger.specs.Replies.{Reply, Reply.done, Reply.days, Reply.says, Reply.planned, Reply.out, Reply.refused, Reply.lacks, reply, Allowed, marks_after, list_after, ledger_after}
 use Rattle.faults.specs.Faults.{check_number, number_of}
 use Rattle.faults.specs.declared.Check.{Check}
 use Rattle.faults.specs.declared.Cause.{Cause}
@@ -74,6 +74,11 @@ pub record Edits (c : Calendar) (L : Ledger) (e : Edit) (r : Result (Unit {0}) B
   pub answer : edit_reply r (horizon_marks after) ≡ reply c L (edit e (length before)) (horizon_marks after)
   pub set : Allowed c L (edit e (length before)) (horizon_marks after)
   pub marks : after ≡ marks_after (reply c L (edit e (length before)) (horizon_marks after)) before
+
+-- An edit as the ledger makes it: what it answers, and the ledger N after it.
+pub record Edited (c : Calendar) (L : Ledger) (e : Edit) (r : Result (Unit {0}) BookFault) (before after : List ℕ) (N : Ledger) : Type 0 where
+  pub told : Edits c L e r before after
+  pub ledger : N ≡ ledger_after c L (edit e (length before))
 
 -- What plan and turn answer, read as the reply `told`, and how they leave the list.
 pub record Lists (c : Calendar) (L : Ledger) (k : Call) (r : Result ℕ BookFault) (told : Reply) (before after : List ℕ) : Type 0 where

@@ -8,19 +8,14 @@ use Rattle.ledger.specs.Ledger.{Calendar, Ledger, pairs, windows, weigh, Fits, p
 use Rattle.ledger.specs.Replies.{Reply, Reply.refused}
 use Rattle.orders.specs.Tables.{held_in, told_in}
 use Rattle.state.specs.Answers.{horizon_marks, plainly}
-use Rattle.faults.specs.declared.Check.{Check}
 use Rattle.faults.specs.declared.Cause.{Cause}
-use Rattle.faults.specs.declared.Cause.TheVariants.{Failed, Engine}
+use Rattle.faults.specs.declared.Cause.TheVariants.{Engine}
 use Rattle.faults.specs.declared.BookFault.{BookFault}
 use Rattle.state.specs.declared.state.State.{State}
 
 -- A cause with what it is about.
 abbrev pub fault_about : ℕ → Cause → BookFault
 fault_about about cause = record { cause = cause; subject = about }
-
-abbrev pub checked_about : ℕ → Result (Unit {0}) Check → Result (Unit {0}) BookFault
-checked_about about (Ok _) = Ok tt
-checked_about about (Err check) = Err (fault_about about (Failed check))
 
 -- Accepted where there is a plan, refused with the engine's fault where there is none.
 abbrev pub answer_of : ℕ → Weight → Result (Unit {0}) BookFault

@@ -2,10 +2,9 @@
 ghost use Rattle.std.specs.Prelude.{◌≡◌, [], length};
 ghost use Rattle.ledger.specs.Calls.{Edit, Call};
 ghost use Rattle.ledger.specs.Replies.{reply};
-ghost use Rattle.ledger.specs.Lives.{after};
 ghost use Rattle.state.specs.Answers.{Edits, Lists, douse_reply, window_reply, probe_reply, plan_reply};
 ghost use Rattle.state.specs.Model.{ledger_of};
-ghost use Rattle.book.specs.Lives.{life_of};
+ghost use Rattle.book.specs.Lives.{Goes};
 
 use super::Desk;
 use crate::mode::Mode;
@@ -17,8 +16,7 @@ impl<C: Calendar, M: Mode> Desk<C, M> {
     // Holds a new order.
     pub fn admit(&mut self, number: u16, asked: Window, marks: &mut [u8]) -> Result<(), BookFault>
         ensures told { Edits (C.told self.old.calendar) (ledger_of self.old.state) (Edit.admit number asked.first asked.last) result marks.old marks.new }
-        ensures life { life_of self.new.state (M.begun self.new.mode) ≡ after (C.told self.old.calendar) (life_of self.old.state (M.begun self.old.mode)) (Call.edit (Edit.admit number asked.first asked.last) (length marks.old)) }
-        ensures same { self.new.calendar ≡ self.old.calendar }
+        ensures goes { Goes C.told M.begun M.begun (Call.edit (Edit.admit number asked.first asked.last) (length marks.old)) self.old self.new }
     {
         self.state.admit(&self.calendar, number, asked, marks)
     }
@@ -26,8 +24,7 @@ impl<C: Calendar, M: Mode> Desk<C, M> {
     // Gives an order another window.
     pub fn change(&mut self, number: u16, asked: Window, marks: &mut [u8]) -> Result<(), BookFault>
         ensures told { Edits (C.told self.old.calendar) (ledger_of self.old.state) (Edit.change number asked.first asked.last) result marks.old marks.new }
-        ensures life { life_of self.new.state (M.begun self.new.mode) ≡ after (C.told self.old.calendar) (life_of self.old.state (M.begun self.old.mode)) (Call.edit (Edit.change number asked.first asked.last) (length marks.old)) }
-        ensures same { self.new.calendar ≡ self.old.calendar }
+        ensures goes { Goes C.told M.begun M.begun (Call.edit (Edit.change number asked.first asked.last) (length marks.old)) self.old self.new }
     {
         self.state.change(&self.calendar, number, asked, marks)
     }
@@ -35,8 +32,7 @@ impl<C: Calendar, M: Mode> Desk<C, M> {
     // Takes an order out; its number may be used again.
     pub fn withdraw(&mut self, number: u16, marks: &mut [u8]) -> Result<(), BookFault>
         ensures told { Edits (C.told self.old.calendar) (ledger_of self.old.state) (Edit.withdraw number) result marks.old marks.new }
-        ensures life { life_of self.new.state (M.begun self.new.mode) ≡ after (C.told self.old.calendar) (life_of self.old.state (M.begun self.old.mode)) (Call.edit (Edit.withdraw number) (length marks.old)) }
-        ensures same { self.new.calendar ≡ self.old.calendar }
+        ensures goes { Goes C.told M.begun M.begun (Call.edit (Edit.withdraw number) (length marks.old)) self.old self.new }
     {
         self.state.withdraw(&self.calendar, number, marks)
     }
@@ -44,8 +40,7 @@ impl<C: Calendar, M: Mode> Desk<C, M> {
     // Makes a day lit.
     pub fn light(&mut self, day: u16, marks: &mut [u8]) -> Result<(), BookFault>
         ensures told { Edits (C.told self.old.calendar) (ledger_of self.old.state) (Edit.light day) result marks.old marks.new }
-        ensures life { life_of self.new.state (M.begun self.new.mode) ≡ after (C.told self.old.calendar) (life_of self.old.state (M.begun self.old.mode)) (Call.edit (Edit.light day) (length marks.old)) }
-        ensures same { self.new.calendar ≡ self.old.calendar }
+        ensures goes { Goes C.told M.begun M.begun (Call.edit (Edit.light day) (length marks.old)) self.old self.new }
     {
         self.state.light(&self.calendar, day, marks)
     }
@@ -53,8 +48,7 @@ impl<C: Calendar, M: Mode> Desk<C, M> {
     // Makes a day unlit.
     pub fn douse(&mut self, day: u16) -> Result<(), BookFault>
         ensures told { douse_reply result ≡ reply (C.told self.old.calendar) (ledger_of self.old.state) (Call.douse day) [] }
-        ensures life { life_of self.new.state (M.begun self.new.mode) ≡ after (C.told self.old.calendar) (life_of self.old.state (M.begun self.old.mode)) (Call.douse day) }
-        ensures same { self.new.calendar ≡ self.old.calendar }
+        ensures goes { Goes C.told M.begun M.begun (Call.douse day) self.old self.new }
     {
         self.state.douse(&self.calendar, day)
     }

@@ -1,10 +1,10 @@
 // The calls of a book, and those of a trial.
 ghost use Rattle.std.specs.Prelude.{◌≡◌, length, None};
 ghost use Rattle.ledger.specs.Calls.{Call};
-ghost use Rattle.ledger.specs.Lives.{opened, after};
+ghost use Rattle.ledger.specs.Lives.{opened};
 ghost use Rattle.state.specs.Answers.{Lists, turn_reply};
 ghost use Rattle.state.specs.Model.{ledger_of};
-ghost use Rattle.book.specs.Lives.{life_of, begun_in};
+ghost use Rattle.book.specs.Lives.{none, begun_in, life_of, Goes};
 
 use super::Desk;
 use crate::mode::{Live, Trying};
@@ -28,16 +28,14 @@ impl<C: Calendar> Desk<C, Live> {
     // the next day. Later entries of the list stay.
     pub fn turn(&mut self, list: &mut [u16]) -> Result<usize, BookFault>
         ensures told { Lists (C.told self.old.calendar) (ledger_of self.old.state) (Call.turn (length list.old)) result (turn_reply result list.new) list.old list.new }
-        ensures life { life_of self.new.state None ≡ after (C.told self.old.calendar) (life_of self.old.state None) (Call.turn (length list.old)) }
-        ensures same { self.new.calendar ≡ self.old.calendar }
+        ensures goes { Goes C.told none none (Call.turn (length list.old)) self.old self.new }
     {
         self.state.turn(&self.calendar, list)
     }
 
     // Makes the book into a trial.
     pub fn begin(self) -> Desk<C, Trying>
-        ensures life { life_of result.state (begun_in result.mode) ≡ after (C.told self.calendar) (life_of self.state None) Call.begin }
-        ensures same { result.calendar ≡ self.calendar }
+        ensures { Goes C.told none begun_in Call.begin self result }
     {
         let begun = self.state;
         Desk {
@@ -51,8 +49,7 @@ impl<C: Calendar> Desk<C, Live> {
 impl<C: Calendar> Desk<C, Trying> {
     // The trial becomes a book as it is.
     pub fn keep(self) -> Desk<C, Live>
-        ensures life { life_of result.state None ≡ after (C.told self.calendar) (life_of self.state (begun_in self.mode)) Call.keep }
-        ensures same { result.calendar ≡ self.calendar }
+        ensures { Goes C.told begun_in none Call.keep self result }
     {
         Desk {
             calendar: self.calendar,
@@ -63,8 +60,7 @@ impl<C: Calendar> Desk<C, Trying> {
 
     // The trial becomes the book that began it.
     pub fn undo(self) -> Desk<C, Live>
-        ensures life { life_of result.state None ≡ after (C.told self.calendar) (life_of self.state (begun_in self.mode)) Call.undo }
-        ensures same { result.calendar ≡ self.calendar }
+        ensures { Goes C.told begun_in none Call.undo self result }
     {
         Desk {
             calendar: self.calendar,

@@ -1,10 +1,9 @@
-ghost use Rattle.std.specs.Prelude.{None};
-ghost use Rattle.book.specs.Lives.{begun_in};
+ghost use Rattle.book.specs.Lives.{none, begun_in};
 
 use super::{Live, Mode, Trying};
 
 impl Mode for Live {
-    ghost begun = { λ _. None };
+    ghost begun = { none };
 }
 
 impl Mode for Trying {

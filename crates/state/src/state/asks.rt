@@ -8,10 +8,9 @@ ghost use Rattle.state.specs.Model.{ledger_of};
 ghost use Rattle.state.specs.Weights.{quiet, refusal_in, Told, Planned};
 
 use super::State;
-use super::edits::{about, refused};
 use crate::HORIZON;
 use calendar::Calendar;
-use faults::{BookFault, Cause, Check};
+use faults::BookFault;
 use records::limits::MOST_RECORDS;
 
 impl State {
@@ -22,45 +21,31 @@ impl State {
     {
         let mut told = *self;
         let mut marks = [0; HORIZON];
-        match told.weigh(calendar, &mut marks) {
-            Ok(()) => Ok(told),
-            Err(fault) => Err(BookFault {
-                cause: Cause::Engine(fault),
-                subject,
-            }),
-        }
+        told.weigh(calendar, &mut marks)
+            .map_err(|fault| BookFault::about(subject, fault))?;
+        Ok(told)
     }
 
     // The first and the last day of an order in any plan.
     pub fn window<C: Calendar>(&self, calendar: &C, number: u16) -> Result<(u16, u16), BookFault>
         ensures { window_reply result ≡ reply (C.told calendar.now) (ledger_of self.now) (Call.window number) [] }
     {
-        if !self.holds(number) {
-            return Err(refused(Check::NumberUnknown, number));
-        }
+        self.check_window(number)
+            .map_err(|check| BookFault::about(number, check))?;
         let told = self.weighed(calendar, number)?;
-        match told.table.told(number) {
-            Some(days) => Ok(days),
-            None => unreachable(),
-        }
+        Ok(told.table.told(number).unwrap())
     }
 
     // Whether some plan gives an order a day.
     pub fn probe<C: Calendar>(&self, calendar: &C, number: u16, day: u16) -> Result<bool, BookFault>
         ensures { probe_reply result ≡ reply (C.told calendar.now) (ledger_of self.now) (Call.probe number day) [] }
     {
-        let Some(place) = self.table.find(number) else {
-            return Err(refused(Check::NumberUnknown, number));
-        };
-        if self.is_outside(day) {
-            return Err(refused(Check::DayOutside, number));
-        }
-        let _ = self.weighed(calendar, number)?;
+        self.check_probe(number, day)
+            .map_err(|check| BookFault::about(number, check))?;
+        self.weighed(calendar, number)?;
+        let place = self.table.find(number).unwrap();
         let pairs = self.pairs(calendar);
-        match self.table.supports(self.today, &pairs, place, day) {
-            Ok(yes) => Ok(yes),
-            Err(_) => unreachable(),
-        }
+        Ok(self.table.supports(self.today, &pairs, place, day).unwrap())
     }
 
     // The days of the first plan, at the front of a list.
@@ -72,22 +57,18 @@ impl State {
         ensures refusal { refusal_in result ≡ quiet subject (weigh_ledger (C.told calendar.now) (ledger_of self.now) []) }
         ensures planned { Planned (C.told calendar.now) (ledger_of self.now) result }
     {
-        let _ = self.weighed(calendar, subject)?;
+        self.weighed(calendar, subject)?;
         let pairs = self.pairs(calendar);
-        match self.table.plan(self.today, &pairs) {
-            Ok(plan) => match plan {
-                Some(days) => Ok(days),
-                None => unreachable(),
-            },
-            Err(_) => unreachable(),
-        }
+        let plan = self.table.plan(self.today, &pairs).unwrap();
+        Ok(plan.unwrap())
     }
 
     // Writes a day for each held order: of all plans the one whose list of days comes first. Tells how many days.
     pub fn plan<C: Calendar>(&self, calendar: &C, list: &mut [u16]) -> Result<usize, BookFault>
         ensures { Lists (C.told calendar.now) (ledger_of self.now) (Call.plan (length list.old)) result (plan_reply result list.new) list.old list.new }
     {
-        about(self.today, self.check_plan(list.len()))?;
+        self.check_plan(list.len())
+            .map_err(|check| BookFault::about(self.today, check))?;
         let days = self.planned(calendar, self.today)?;
         let held = self.table.len();
         list[0..held].copy_from_slice(&days[0..held]);

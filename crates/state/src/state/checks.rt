@@ -1,5 +1,5 @@
 // The checks of each call, in their order.
-ghost use Rattle.std.specs.Prelude.{◌≡◌};
+ghost use Rattle.std.specs.Prelude.{◌≡◌, cond, Ok, Err};
 ghost use Rattle.ledger.specs.Orders.{holds as holds_number};
 ghost use Rattle.ledger.specs.Calls.{Edit, Call, bad_window, bad_day, checks, first_fault};
 ghost use Rattle.state.specs.Answers.{failed};
@@ -10,6 +10,13 @@ use crate::{HORIZON, LAST_TODAY};
 use faults::Check;
 use records::Window;
 use records::limits::MOST_RECORDS;
+
+// Refuses what fails a check.
+fn refuse_if(fails: bool, check: Check) -> Result<(), Check>
+    ensures { result ≡ cond fails (Err check) (Ok tt) }
+{
+    if fails { Err(check) } else { Ok(()) }
+}
 
 impl State {
     // Whether an order is held under a number.
@@ -23,14 +30,14 @@ impl State {
     pub(crate) fn is_lit(&self, day: u16) -> bool
         ensures { result ≡ (ledger_of self.now).lit day }
     {
-        !self.is_outside(day) && self.lit[day as usize % HORIZON]
+        !self.is_outside(day) && self.lit[usize::from(day) % HORIZON]
     }
 
     // Whether a day is not of the horizon.
     pub(crate) fn is_outside(&self, day: u16) -> bool
         ensures { result ≡ bad_day (ledger_of self.now) day }
     {
-        day < self.today || (day - self.today) as usize >= HORIZON
+        day < self.today || usize::from(day - self.today) >= HORIZON
     }
 
     // Whether a window ends before it begins, begins before today or ends after the horizon.
@@ -39,102 +46,72 @@ impl State {
     {
         asked.last < asked.first
             || asked.first < self.today
-            || (asked.last - self.today) as usize >= HORIZON
+            || usize::from(asked.last - self.today) >= HORIZON
     }
 
     pub(crate) fn check_admit(&self, number: u16, asked: Window, marks: usize) -> Result<(), Check>
         ensures { failed result ≡ first_fault (checks (ledger_of self.now) (Call.edit (Edit.admit number asked.first asked.last) marks)) }
     {
-        if number == 0 {
-            return Err(Check::NumberZero);
-        }
-        if self.holds(number) {
-            return Err(Check::NumberHeld);
-        }
-        if self.table.len() >= MOST_RECORDS {
-            return Err(Check::BookFull);
-        }
-        if self.is_bad(asked) {
-            return Err(Check::BadWindow);
-        }
-        if marks < HORIZON {
-            return Err(Check::TooShort);
-        }
-        Ok(())
+        refuse_if(number == 0, Check::NumberZero)?;
+        refuse_if(self.holds(number), Check::NumberHeld)?;
+        refuse_if(self.table.len() >= MOST_RECORDS, Check::BookFull)?;
+        refuse_if(self.is_bad(asked), Check::BadWindow)?;
+        refuse_if(marks < HORIZON, Check::TooShort)
     }
 
     pub(crate) fn check_change(&self, number: u16, asked: Window, marks: usize) -> Result<(), Check>
         ensures { failed result ≡ first_fault (checks (ledger_of self.now) (Call.edit (Edit.change number asked.first asked.last) marks)) }
     {
-        if !self.holds(number) {
-            return Err(Check::NumberUnknown);
-        }
-        if self.is_bad(asked) {
-            return Err(Check::BadWindow);
-        }
-        if marks < HORIZON {
-            return Err(Check::TooShort);
-        }
-        Ok(())
+        refuse_if(!self.holds(number), Check::NumberUnknown)?;
+        refuse_if(self.is_bad(asked), Check::BadWindow)?;
+        refuse_if(marks < HORIZON, Check::TooShort)
     }
 
     pub(crate) fn check_withdraw(&self, number: u16, marks: usize) -> Result<(), Check>
         ensures { failed result ≡ first_fault (checks (ledger_of self.now) (Call.edit (Edit.withdraw number) marks)) }
     {
-        if !self.holds(number) {
-            return Err(Check::NumberUnknown);
-        }
-        if marks < HORIZON {
-            return Err(Check::TooShort);
-        }
-        Ok(())
+        refuse_if(!self.holds(number), Check::NumberUnknown)?;
+        refuse_if(marks < HORIZON, Check::TooShort)
     }
 
     pub(crate) fn check_light(&self, day: u16, marks: usize) -> Result<(), Check>
         ensures { failed result ≡ first_fault (checks (ledger_of self.now) (Call.edit (Edit.light day) marks)) }
     {
-        if self.is_outside(day) {
-            return Err(Check::DayOutside);
-        }
-        if self.is_lit(day) {
-            return Err(Check::LitAlready);
-        }
-        if marks < HORIZON {
-            return Err(Check::TooShort);
-        }
-        Ok(())
+        refuse_if(self.is_outside(day), Check::DayOutside)?;
+        refuse_if(self.is_lit(day), Check::LitAlready)?;
+        refuse_if(marks < HORIZON, Check::TooShort)
     }
 
     pub(crate) fn check_douse(&self, day: u16) -> Result<(), Check>
         ensures { failed result ≡ first_fault (checks (ledger_of self.now) (Call.douse day)) }
     {
-        if self.is_outside(day) {
-            return Err(Check::DayOutside);
-        }
-        if !self.is_lit(day) {
-            return Err(Check::LitAlready);
-        }
-        Ok(())
+        refuse_if(self.is_outside(day), Check::DayOutside)?;
+        refuse_if(!self.is_lit(day), Check::LitAlready)
+    }
+
+    pub(crate) fn check_window(&self, number: u16) -> Result<(), Check>
+        ensures { failed result ≡ first_fault (checks (ledger_of self.now) (Call.window number)) }
+    {
+        refuse_if(!self.holds(number), Check::NumberUnknown)
+    }
+
+    pub(crate) fn check_probe(&self, number: u16, day: u16) -> Result<(), Check>
+        ensures { failed result ≡ first_fault (checks (ledger_of self.now) (Call.probe number day)) }
+    {
+        refuse_if(!self.holds(number), Check::NumberUnknown)?;
+        refuse_if(self.is_outside(day), Check::DayOutside)
     }
 
     pub(crate) fn check_plan(&self, room: usize) -> Result<(), Check>
         ensures { failed result ≡ first_fault (checks (ledger_of self.now) (Call.plan room)) }
     {
-        if room < self.table.len() {
-            return Err(Check::TooShort);
-        }
-        Ok(())
+        refuse_if(room < self.table.len(), Check::TooShort)
     }
 
     pub(crate) fn check_turn(&self, room: usize) -> Result<(), Check>
         ensures { failed result ≡ first_fault (checks (ledger_of self.now) (Call.turn room)) }
     {
-        if room < self.table.len() {
-            return Err(Check::TooShort);
-        }
-        if self.today == LAST_TODAY {
-            return Err(Check::LastDay);
-        }
-        Ok(())
+        refuse_if(room < self.table.len(), Check::TooShort)?;
+        refuse_if(self.today == LAST_TODAY, Check::LastDay)
     }
 }

@@ -12,6 +12,7 @@ use super::State;
 use crate::HORIZON;
 use calendar::Calendar;
 use records::NarrowingFault;
+use std::array;
 
 impl State {
     // The pair of a day: a lit day has the calendar's, an unlit one fewest 0.
@@ -33,11 +34,7 @@ impl State {
     pub(crate) fn pairs<C: Calendar>(&self, calendar: &C) -> [(u16, u16); HORIZON]
         ensures { result ≡ ledger_pairs (C.told calendar.now) (ledger_of self.now) }
     {
-        let mut pairs = [(0, 0); HORIZON];
-        for at in 0..HORIZON {
-            pairs[at] = self.pair_on(calendar, at);
-        }
-        pairs
+        array::from_fn(|at| self.pair_on(calendar, at))
     }
 
     // Whether there is a plan; then each order is told its days. Where there is none, the marks of the horizon show why.

@@ -1,10 +1,6 @@
-use Rattle.std.proofs.Common.{length, rules}
 use Rattle.ledger.specs.Calls.{Edit.light}
-use Rattle.state.specs.Model.{ledger_of}
-use Rattle.book.proofs.Lives.{edited_life}
+use Rattle.book.proofs.Lives.{goes_by}
 use Rattle.book.proofs.desk.Desk.light.Goals as goal
 
-pub returns-clause-life : goal.returns-clause-life
-returns-clause-life g c =
-    let d = c.args.self.now in
-    edited_life (g.C.Calendar.told d.calendar) (ledger_of d.state) _ (g.M.Mode.begun d.mode) (light c.args.day) (length c.args.marks.now) (search rules)
+pub returns-clause-goes : goal.returns-clause-goes
+returns-clause-goes g c = goes_by g.C.Calendar.told g.M.Mode.begun c.args.self.now _ (light c.args.day) _ c.light.ensures.ledger

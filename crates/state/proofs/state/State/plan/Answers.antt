@@ -1,12 +1,12 @@
 use Rattle.std.proofs.Common.{◌≡◌, ℕ, ◌-◌, ◌≤◌, List, ◌++◌, length, take, drop, sym, refl, ap, ◌∙◌, ap₂, arith, rules}
 use Rattle.std.proofs.lemmas.Result.{err_from_is_err_and}
-use Rattle.orders.proofs.Tables.{long}
 use Rattle.ledger.specs.Ledger.{plan_of}
-use Rattle.ledger.specs.Calls.{Call.plan, checks, first_fault}
+use Rattle.ledger.specs.Calls.{Call.plan}
 use Rattle.ledger.specs.Law.{Passes}
 use Rattle.state.specs.Model.{ledger_of}
+use Rattle.state.proofs.Nearness.{few}
 use Rattle.state.proofs.Passing.{plan_room}
-use Rattle.state.proofs.Settling.{no_fault}
+use Rattle.state.proofs.Refusing.{no_fault}
 use Rattle.state.proofs.Asking.{ask_refused, ask_told}
 use Rattle.state.proofs.Planning.{fits_long}
 use Rattle.state.proofs.Writing.{lists_refused, plan_lists}
@@ -17,8 +17,7 @@ returns-in_err-days g c =
     let C = g.C.Calendar.told c.args.calendar.now in
     let L = ledger_of c.args.self.now in
     let ns = c.args.list.now in
-    let pass : Passes L (plan (length ns)) = no_fault L.today c.check_plan.result (first_fault (checks L (plan (length ns)))) c.check_plan.ensures
-    (sym c.about.ensures ∙ c.in_ok-about.was) in
+    let pass : Passes L (plan (length ns)) = no_fault c.check_plan.result c.check_plan.ensures c.map_err.ensures.variant c.in_ok-map_err.was in
     let p = err_from_is_err_and c.from_residual-in_err-days.result c.from_residual-in_err-days.ensures.1 in
     rw (p.1, p.2)
     (lists_refused C L (plan (length ns)) c.in_err-days.field-0.0 ns (ask_refused C L (plan (length ns)) refl pass refl c.in_err-days.field-0.0 c.in_err-days.ensures.refusal)).0
@@ -27,26 +26,20 @@ pub slice_bounds-copy_from_slice-end : goal.slice_bounds-copy_from_slice-end
 slice_bounds-copy_from_slice-end g c =
     let L = ledger_of c.args.self.now in
     let ns = c.args.list.now in
-    let pass : Passes L (plan (length ns)) = no_fault L.today c.check_plan.result (first_fault (checks L (plan (length ns)))) c.check_plan.ensures
-    (sym c.about.ensures ∙ c.in_ok-about.was) in
+    let pass : Passes L (plan (length ns)) = no_fault c.check_plan.result c.check_plan.ensures c.map_err.ensures.variant c.in_ok-map_err.was in
     let h : c.len-held.result ≤ length ns = omega (arith, plan_room L (length ns) pass, c.len-held.ensures) in
     search rules
 
 pub slice_bounds-copy_from_slice-end-2 : goal.slice_bounds-copy_from_slice-end-2
-slice_bounds-copy_from_slice-end-2 g c =
-    let s = c.args.self.now in
-    let h : c.len-held.result ≤ 512 = omega (arith, long s.table, s.table.few, c.len-held.ensures) in
-    search rules
+slice_bounds-copy_from_slice-end-2 g c = let h : c.len-held.result ≤ 512 = omega (arith, few c.args.self.now, c.len-held.ensures) in search rules
 
 pub returns : goal.returns
 returns g c =
     let C = g.C.Calendar.told c.args.calendar.now in
-    let s = c.args.self.now in
-    let L = ledger_of s in
+    let L = ledger_of c.args.self.now in
     let ns = c.args.list.now in
     let n = c.len-held.result in
-    let pass : Passes L (plan (length ns)) = no_fault L.today c.check_plan.result (first_fault (checks L (plan (length ns)))) c.check_plan.ensures
-    (sym c.about.ensures ∙ c.in_ok-about.was) in
+    let pass : Passes L (plan (length ns)) = no_fault c.check_plan.result c.check_plan.ensures c.map_err.ensures.variant c.in_ok-map_err.was in
     let D = c.in_ok-days.ensures in
     let z : n - 0 ≡ n = omega arith in
     let t : take n c.in_ok-days.days ≡ plan_of C L = ap (λ m. take m c.in_ok-days.days) c.len-held.ensures ∙ D.planned.0 in

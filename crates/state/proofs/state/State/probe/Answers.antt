@@ -1,48 +1,55 @@
-use Rattle.std.proofs.Common.{◌≡◌, false, Ok, sym, refl, ap, ◌∙◌, arith}
+use Rattle.std.proofs.Common.{◌≡◌, is_some, sym, refl, ap, ◌∙◌, arith}
+use Rattle.std.specs.Result.{is_ok}
 use Rattle.std.proofs.lemmas.Result.{err_from_is_err_and}
-use Rattle.records.specs.Checks.{checked}
-use Rattle.orders.proofs.Tables.{long}
-use Rattle.ledger.specs.Ledger.{pairs, windows, may_have}
-use Rattle.ledger.specs.Calls.{Call.probe, bad_day}
+use Rattle.ledger.specs.Ledger.{may_have}
+use Rattle.ledger.specs.Calls.{Call.probe}
+use Rattle.ledger.specs.Law.{Passes}
 use Rattle.ledger.specs.Replies.{Reply.says}
 use Rattle.state.specs.Model.{ledger_of}
-use Rattle.state.proofs.Nearness.{passes}
-use Rattle.state.proofs.Asking.{probe_passes, ask_refused, ask_told, supported_told, ok_not_err, ok_same}
+use Rattle.state.proofs.Nearness.{few, weighable}
+use Rattle.state.proofs.Refusing.{no_fault}
+use Rattle.state.proofs.Asking.{probe_held, ask_refused, ask_told, placed, supported_told}
 use Rattle.state.proofs.state.State.probe.Goals as goal
 
 pub returns-in_err-weighed : goal.returns-in_err-weighed
 returns-in_err-weighed g c =
     let C = g.C.Calendar.told c.args.calendar.now in
     let L = ledger_of c.args.self.now in
-    let day : bad_day L c.args.day ≡ false = sym c.is_outside.ensures ∙ c.if-is_outside.false in
-    let p = err_from_is_err_and c.from_residual.result c.from_residual.ensures.1 in
-    rw (p.1, p.2)
-    (ask_refused C L (probe c.args.number c.args.day) refl (probe_passes L c.args.number c.in-Some.place c.args.day c.in-Some.ensures day) refl
-    c.in_err-weighed.field-0.0 c.in_err-weighed.ensures.refusal)
+    let n = c.args.number in
+    let d = c.args.day in
+    let pass : Passes L (probe n d) = no_fault c.check_probe.result c.check_probe.ensures c.map_err.ensures.variant c.in_ok-map_err.was in
+    let p = err_from_is_err_and c.from_residual-in_err-weighed.result c.from_residual-in_err-weighed.ensures.1 in
+    rw (p.1, p.2) (ask_refused C L (probe n d) refl pass refl c.in_err-weighed.field-0.0 c.in_err-weighed.ensures.refusal)
 
-pub unreachable-requires : goal.unreachable-requires
-unreachable-requires g c =
+pub unwrap-place-requires : goal.unwrap-place-requires
+unwrap-place-requires g c =
+    let L = ledger_of c.args.self.now in
+    let n = c.args.number in
+    let d = c.args.day in
+    let pass : Passes L (probe n d) = no_fault c.check_probe.result c.check_probe.ensures c.map_err.ensures.variant c.in_ok-map_err.was in
+    ap is_some (c.find.ensures ∙ placed n (probe_held L n d pass).0 refl)
+
+pub unwrap-requires : goal.unwrap-requires
+unwrap-requires g c =
     let s = c.args.self.now in
     let C = g.C.Calendar.told c.args.calendar.now in
     let L = ledger_of s in
-    let day : bad_day L c.args.day ≡ false = sym c.is_outside.ensures ∙ c.if-is_outside.false in
-    let pass : checked L.today (pairs C L) (windows L) 56 ≡ Ok tt =
-    passes C L 56 (g.C.Calendar.sound c.args.calendar.now) s.early s.near (omega (arith, long s.table, s.table.few)) (omega arith) in
-    let e = supported_told C L c.args.number c.in-Some.place c.args.day c.in-Some.ensures day (omega (arith, long s.table, s.table.few)) pass
-    c.pairs-pairs.result c.pairs-pairs.ensures c.supports.result c.supports.ensures in
-    ok_not_err c.supports.result (may_have C L c.args.number c.args.day) c.in-Err.field-0 e c.in-Err.is
+    let n = c.args.number in
+    let d = c.args.day in
+    let pass : Passes L (probe n d) = no_fault c.check_probe.result c.check_probe.ensures c.map_err.ensures.variant c.in_ok-map_err.was in
+    ap is_ok
+    (supported_told C L n c.unwrap-place.result d (sym c.unwrap-place.ensures ∙ c.find.ensures) (probe_held L n d pass).1 (few s)
+    (weighable C s 56 (g.C.Calendar.sound c.args.calendar.now) (omega arith)) c.pairs-pairs.result c.pairs-pairs.ensures c.supports.result c.supports.ensures)
 
 pub returns : goal.returns
 returns g c =
     let s = c.args.self.now in
     let C = g.C.Calendar.told c.args.calendar.now in
     let L = ledger_of s in
-    let day : bad_day L c.args.day ≡ false = sym c.is_outside.ensures ∙ c.if-is_outside.false in
-    let pass : checked L.today (pairs C L) (windows L) 56 ≡ Ok tt =
-    passes C L 56 (g.C.Calendar.sound c.args.calendar.now) s.early s.near (omega (arith, long s.table, s.table.few)) (omega arith) in
-    let e = supported_told C L c.args.number c.in-Some.place c.args.day c.in-Some.ensures day (omega (arith, long s.table, s.table.few)) pass
-    c.pairs-pairs.result c.pairs-pairs.ensures c.supports.result c.supports.ensures in
-    let y : c.in-Ok.yes ≡ may_have C L c.args.number c.args.day = ok_same c.supports.result (may_have C L c.args.number c.args.day) c.in-Ok.yes e c.in-Ok.is in
-    ap says y
-    ∙ ask_told C L (probe c.args.number c.args.day) refl (probe_passes L c.args.number c.in-Some.place c.args.day c.in-Some.ensures day) refl
-    c.in_ok-weighed.ensures.refusal
+    let n = c.args.number in
+    let d = c.args.day in
+    let pass : Passes L (probe n d) = no_fault c.check_probe.result c.check_probe.ensures c.map_err.ensures.variant c.in_ok-map_err.was in
+    let e = supported_told C L n c.unwrap-place.result d (sym c.unwrap-place.ensures ∙ c.find.ensures) (probe_held L n d pass).1 (few s)
+    (weighable C s 56 (g.C.Calendar.sound c.args.calendar.now) (omega arith)) c.pairs-pairs.result c.pairs-pairs.ensures c.supports.result c.supports.ensures in
+    let y : c.unwrap.result ≡ may_have C L n d = cc (e, c.unwrap.ensures) in
+    ap says y ∙ ask_told C L (probe n d) refl pass refl c.in_ok-weighed.ensures.refusal

@@ -1,14 +1,29 @@
+use Rattle.std.proofs.Common.{ap, ◌∙◌, rules}
+use Rattle.std.proofs.lemmas.Result.{err_from_is_err_and}
+use Rattle.faults.specs.declared.Cause.TheVariants.{Engine}
+use Rattle.ledger.specs.Ledger.{weigh}
+use Rattle.state.specs.Answers.{horizon_marks}
 use Rattle.state.specs.Model.{ledger_of}
+use Rattle.state.proofs.Refusing.{blamed, blames, heard}
 use Rattle.state.proofs.Judging.{settles_ok, settles_err}
 use Rattle.state.proofs.state.State.settle.Goals as goal
 
-pub returns-in-Ok : goal.returns-in-Ok
-returns-in-Ok g c =
-    settles_ok (g.C.Calendar.told c.args.calendar.now) (ledger_of c.args.self.now) (ledger_of c.args.next) c.args.subject _ _
-    c.weigh.ensures.marks c.weigh.result c.weigh.ensures.answer c.in-Ok.field-0 (ledger_of c.weigh.new.self) c.in-Ok.is
-    c.weigh.ensures.ledger
+pub returns-in_err-map_err : goal.returns-in_err-map_err
+returns-in_err-map_err g c =
+    let C = g.C.Calendar.told c.args.calendar.now in
+    let M = ledger_of c.args.next in
+    let a = c.args.subject in
+    let m = blames Engine a c.weigh.result c.map_err.ensures.cases (λ e f q. search rules) ∙ ap (blamed Engine a) c.weigh.ensures.answer
+    ∙ heard a (weigh C M (horizon_marks c.weigh.new.marks)) in
+    let p = err_from_is_err_and c.from_residual.result c.from_residual.ensures.1 in
+    rw (p.1, p.2) (settles_err C (ledger_of c.args.self.now) M a _ _ c.weigh.ensures.marks c.map_err.result m c.in_err-map_err.field-0.0 c.in_err-map_err.was)
 
-pub returns-in-Err : goal.returns-in-Err
-returns-in-Err g c =
-    settles_err (g.C.Calendar.told c.args.calendar.now) (ledger_of c.args.self.now) (ledger_of c.args.next) c.args.subject _ _
-    c.weigh.ensures.marks c.weigh.result c.weigh.ensures.answer c.in-Err.fault c.in-Err.is
+pub returns : goal.returns
+returns g c =
+    let C = g.C.Calendar.told c.args.calendar.now in
+    let M = ledger_of c.args.next in
+    let a = c.args.subject in
+    let m = blames Engine a c.weigh.result c.map_err.ensures.cases (λ e f q. search rules) ∙ ap (blamed Engine a) c.weigh.ensures.answer
+    ∙ heard a (weigh C M (horizon_marks c.weigh.new.marks)) in
+    settles_ok C (ledger_of c.args.self.now) M a _ _ c.weigh.ensures.marks c.map_err.result m (ledger_of c.weigh.new.self) c.in_ok-map_err.was
+    c.weigh.ensures.ledger

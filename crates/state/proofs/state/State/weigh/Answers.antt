@@ -1,11 +1,9 @@
-use Rattle.std.proofs.Common.{◌≡◌, ℕ, List, length, Ok, ap, ◌∙◌, arith}
-use Rattle.records.specs.Checks.{checked}
+use Rattle.std.proofs.Common.{ℕ, List, length, ap, ◌∙◌}
 use Rattle.ledger.specs.Orders.{Order}
-use Rattle.ledger.specs.Ledger.{Calendar, Ledger, pairs, windows}
-use Rattle.orders.proofs.Tables.{long}
+use Rattle.ledger.specs.Ledger.{Calendar, Ledger}
 use Rattle.state.specs.Near.{near_all}
 use Rattle.state.specs.Model.{lit_by, ledger_of}
-use Rattle.state.proofs.Nearness.{passes}
+use Rattle.state.proofs.Nearness.{weighable}
 use Rattle.state.proofs.Judging.{weigh_answer, weigh_marks, weigh_told}
 use Rattle.state.proofs.state.State.weigh.Goals as goal
 
@@ -19,8 +17,7 @@ returns g c =
     let s = c.args.self.now in
     let C : Calendar = g.C.Calendar.told c.args.calendar.now in
     let ms : List ℕ = c.args.marks.now in
-    let pass : checked s.today (pairs C (ledger_of s)) (windows (ledger_of s)) (length ms) ≡ Ok tt =
-    passes C (ledger_of s) (length ms) (g.C.Calendar.sound c.args.calendar.now) s.early s.near (omega (arith, long s.table, s.table.few)) c.requires in
+    let pass = weighable C s (length ms) (g.C.Calendar.sound c.args.calendar.now) c.requires in
     record {
       answer = c.narrow.ensures.answer ∙ weigh_answer C (ledger_of s) ms c.narrow.new.marks pass c.pairs-pairs.result c.pairs-pairs.ensures;
       marks = weigh_marks C (ledger_of s) ms c.narrow.new.marks pass c.pairs-pairs.result c.pairs-pairs.ensures c.narrow.ensures.marks;
