@@ -6,6 +6,7 @@ ghost use Rattle.faults.specs.Faults.{check_number, number_of, place_of, counts_
 ghost use Rattle.faults.specs.declared.Cause.TheVariants.{Failed, Engine};
 
 use records::NarrowingFault;
+use refusals::Fault;
 
 // The check that a call does not pass.
 #[derive(Clone, Copy, PartialEq, Eq, Debug)]
@@ -93,11 +94,14 @@ impl Check {
     }
 }
 
-impl BookFault {
-    // The number of the refusal.
-    pub fn number(self) -> u16
-        ensures { result ≡ number_of self.cause }
-    {
+impl Fault for BookFault {
+    ghost numbered = { λ fault. number_of fault.cause };
+
+    ghost placed = { λ fault. place_of fault.cause };
+
+    ghost lettered = { λ fault. layer_of fault.cause };
+
+    fn number(self) -> u16 {
         match self.cause {
             Cause::Failed(check) => check.number(),
             Cause::Engine(fault) => fault.number(),
@@ -105,15 +109,22 @@ impl BookFault {
     }
 
     // The day or the place that the engine names.
-    pub fn place(self) -> Option<usize>
-        ensures { result ≡ place_of self.cause }
-    {
+    fn place(self) -> Option<usize> {
         match self.cause {
             Cause::Failed(_) => None,
             Cause::Engine(fault) => fault.place(),
         }
     }
 
+    fn layer(self) -> char {
+        match self.cause {
+            Cause::Failed(_) => 'B',
+            Cause::Engine(fault) => fault.layer(),
+        }
+    }
+}
+
+impl BookFault {
     // The two counts of the marked set.
     pub fn counts(self) -> Option<(u16, u32)>
         ensures { result ≡ counts_of self.cause }
@@ -121,16 +132,6 @@ impl BookFault {
         match self.cause {
             Cause::Failed(_) => None,
             Cause::Engine(fault) => fault.counts(),
-        }
-    }
-
-    // The letter of the layer where it arose.
-    pub fn layer(self) -> char
-        ensures { result ≡ layer_of self.cause }
-    {
-        match self.cause {
-            Cause::Failed(_) => 'B',
-            Cause::Engine(fault) => fault.layer(),
         }
     }
 }

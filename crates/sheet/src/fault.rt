@@ -4,6 +4,7 @@ ghost use Rattle.sheet.specs.Faults.{number_of, place_of, layer_of, refused_at, 
 
 use calendar::CalendarFault;
 use reading::Unfit;
+use refusals::Fault;
 
 // Why a line of a sheet is refused.
 #[derive(Clone, Copy, PartialEq, Eq, Debug)]
@@ -49,11 +50,14 @@ impl From<Unfit> for SheetFault {
     }
 }
 
-impl SheetFault {
-    // The number of the refusal.
-    pub fn number(self) -> u16
-        ensures { result ≡ number_of self }
-    {
+impl Fault for SheetFault {
+    ghost numbered = { number_of };
+
+    ghost placed = { place_of };
+
+    ghost lettered = { layer_of };
+
+    fn number(self) -> u16 {
         match self {
             SheetFault::TooLong => 50,
             SheetFault::NoMark => 50,
@@ -65,9 +69,7 @@ impl SheetFault {
     }
 
     // The column, line, row or run that it names.
-    pub fn place(self) -> Option<usize>
-        ensures { result ≡ place_of self }
-    {
+    fn place(self) -> Option<usize> {
         match self {
             SheetFault::BadField(column) => Some(column),
             SheetFault::Missing(line) => Some(line),
@@ -76,16 +78,15 @@ impl SheetFault {
         }
     }
 
-    // The letter of the layer that refused.
-    pub fn layer(self) -> char
-        ensures { result ≡ layer_of self }
-    {
+    fn layer(self) -> char {
         match self {
             SheetFault::Calendar(fault) => fault.layer(),
             _ => 'S',
         }
     }
+}
 
+impl SheetFault {
     // The fault on a line of the sheet.
     pub fn at(self, line: usize) -> Refusal
         ensures { result ≡ refused_at line self }

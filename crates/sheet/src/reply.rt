@@ -2,6 +2,7 @@ ghost use Rattle.std.specs.Prelude.{Some};
 ghost use Rattle.sheet.specs.Texts.{refused_text};
 
 use crate::fault::Refusal;
+use refusals::Fault;
 use std::fmt;
 
 impl fmt::Display for Refusal {
