@@ -1,4 +1,3 @@
 mod Cuts
-mod Lengths
 mod Readers
 pub mod Decimals

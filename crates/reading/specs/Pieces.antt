@@ -1,16 +1,11 @@
 -- Bytes cut into pieces: a sheet into lines, a line into fields.
-use Rattle.std.specs.Prelude.{◌≡◌, ℕ, suc, ◌+◌, cond, List, [], ◌∷◌, length, take, drop, Some, None, Option, ◌==◌, nat_lt}
+use Rattle.std.specs.Prelude.{◌≡◌, ℕ, ◌+◌, cond, List, [], ◌∷◌, length, take, drop, Some, None, Option, ◌==◌, nat_lt}
+use Rattle.std.specs.List.{slice_split, position_or_len}
 use Rattle.std.specs.Borrow.{Bor}
-
--- a byte in front of the first piece
-abbrev pub onto : ℕ → List (List ℕ) → List (List ℕ)
-onto b [] = (b ∷ []) ∷ []
-onto b (p ∷ ps) = (b ∷ p) ∷ ps
 
 -- the pieces between the bytes `end`, which belong to none; there is always one more piece than such bytes
 abbrev pub pieces : ℕ → List ℕ → List (List ℕ)
-pieces end [] = [] ∷ []
-pieces end (b ∷ bs) = cond (b == end) ([] ∷ pieces end bs) (onto b (pieces end bs))
+pieces end bs = slice_split (λ b. b == end) bs
 
 -- a piece, unless it is empty
 abbrev pub unless_empty : List ℕ → List (List ℕ)
@@ -42,8 +37,7 @@ rest (x ∷ xs) = xs
 
 -- how many bytes come before the first `end`
 abbrev pub before : ℕ → List ℕ → ℕ
-before end [] = 0
-before end (b ∷ bs) = cond (b == end) 0 (suc (before end bs))
+before end bs = position_or_len (λ b. b == end) bs
 
 -- the bytes from place p up to the next `end`
 abbrev pub piece_at : ℕ → List ℕ → ℕ → List ℕ

@@ -1,8 +1,8 @@
 -- What the readers and their results stand for.
-use Rattle.std.specs.Prelude.{ℕ, ◌+◌, ◌-◌, cond, List, [], map, length, take, drop, nat_le}
+use Rattle.std.specs.Prelude.{ℕ, ◌+◌, ◌-◌, cond, List, [], map, length, drop, nat_le}
 use Rattle.std.specs.Borrow.{Bor}
+use Rattle.arrayvec.specs.ArrayVec.{ArrayVec}
 use Rattle.reading.specs.declared.reader.Lines.{Lines}
-use Rattle.reading.specs.declared.values.Numbers.{Numbers}
 use Rattle.reading.specs.declared.words.Field.{Field}
 use Rattle.reading.specs.declared.words.Field.TheVariants.{Letter, Number, Bad}
 use Rattle.reading.specs.declared.words.Fields.{Fields}
@@ -33,5 +33,6 @@ words_from line p = cond (nat_le p (length line)) (map word (columns (p + 1) (pa
 abbrev pub fields_left : Fields → List Word
 fields_left r = words_from r.line.now r.place
 
-abbrev pub numbers_of : Numbers → List ℕ
-numbers_of n = take n.len n.values
+-- the numbers of a line
+abbrev pub numbers_of : ArrayVec ℕ → List ℕ
+numbers_of n = n.items

@@ -6,12 +6,7 @@ fn distance(bytes: &[u8], end: u8) -> usize
     ensures value { result ≡ before end bytes.now }
     ensures within { result ≤ length bytes.now }
 {
-    for (i, b) in bytes.iter().enumerate() {
-        if *b == end {
-            return i;
-        }
-    }
-    bytes.len()
+    bytes.iter().position(|b| *b == end).unwrap_or(bytes.len())
 }
 
 // The bytes from a place up to the next `end`, as that very part of them.

@@ -6,23 +6,18 @@ ghost use Rattle.reading.specs.Steps.{step_of};
 fn step(n: u16, b: u8) -> Option<u16>
     ensures { result ≡ step_of n b }
 {
-    match b {
-        b'0'..=b'9' => {
-            let m = n as u32 * 10 + (b - b'0') as u32;
-            if m <= 65535 { Some(m as u16) } else { None }
-        }
-        _ => None,
+    if !b.is_ascii_digit() {
+        return None;
     }
+    n.checked_mul(10)?.checked_add(u16::from(b - b'0'))
 }
 
 // The number that the bytes write in decimal, without leading zeros and at most 65,535.
 pub fn number(bytes: &[u8]) -> Option<u16>
     ensures { result ≡ number_of bytes.now }
 {
-    match bytes {
-        [] => return None,
-        [b'0', _, ..] => return None,
-        _ => {}
+    if let [] | [b'0', _, ..] = bytes {
+        return None;
     }
     let mut n = 0;
     for b in bytes {

@@ -8,6 +8,5 @@ pub mod values;
 pub mod words;
 
 pub use reader::Lines;
-pub use values::Numbers;
-pub use values::calls::line_numbers;
+pub use values::{Numbers, line_numbers};
 pub use words::{Count, Field, Fields, Unfit};

@@ -1,7 +1,8 @@
-ghost use Rattle.std.specs.Prelude.{◌≡◌, ℕ, ◌+◌, ◌-◌, ◌≤◌, List, length, IfSome};
+ghost use Rattle.std.specs.Prelude.{◌≡◌, ℕ, ◌-◌, ◌≤◌, List, length, IfSome, ⊤};
 ghost use Rattle.std.specs.Borrow.{Bor};
+ghost use Rattle.std.specs.Iterator.{YieldsFirstBy, MakesProgress, item_count};
 ghost use Rattle.std.specs.Option.{option_map};
-ghost use Rattle.reading.specs.Pieces.{parts, first, rest, PartAt};
+ghost use Rattle.reading.specs.Pieces.{PartAt};
 ghost use Rattle.reading.specs.Told.{told, fields_left, Borrows};
 ghost use Rattle.reading.specs.Words.{letter_of, word, words, headed, fits};
 
@@ -59,7 +60,7 @@ fn letter(bytes: &[u8]) -> Option<u8>
     ensures { result ≡ letter_of bytes.now }
 {
     match bytes {
-        [b] if *b >= b'A' && *b <= b'Z' => Some(*b),
+        [b] if b.is_ascii_uppercase() => Some(*b),
         _ => None,
     }
 }
@@ -82,19 +83,6 @@ fn read_field<'a>(column: usize, bytes: &'a [u8]) -> Field<'a>
     }
 }
 
-// How many spaces the bytes have: one fewer than parts.
-fn spaces(bytes: &[u8]) -> usize
-    ensures { result + 1 ≡ length (parts bytes.now) }
-{
-    let mut n = 0;
-    for b in bytes {
-        if *b == b' ' {
-            n += 1;
-        }
-    }
-    n
-}
-
 impl<'a> Fields<'a> {
     // The fields of a line from its beginning.
     pub fn new(line: &'a [u8]) -> Fields<'a>
@@ -104,12 +92,27 @@ impl<'a> Fields<'a> {
         Fields { line, place: 0 }
     }
 
+    // How many fields are left.
+    pub fn left(&self) -> usize
+        ensures { result ≡ length (fields_left self.now) }
+    {
+        (*self).count()
+    }
+}
+
+impl<'a> Iterator for Fields<'a> {
+    type Item = Field<'a>;
+
+    ghost next_gives = { YieldsFirstBy told fields_left };
+
+    ghost remaining = { item_count fields_left };
+
     // The next field; none once the line is read.
-    pub fn next_field(&mut self) -> Option<Field<'a>>
+    fn next(&mut self) -> Option<Field<'a>>
+        ensures steps { YieldsFirstBy told fields_left self.old result self.new }
+        ensures goes { MakesProgress (λ _. ⊤) (item_count fields_left) self.old result self.new }
         ensures line { self.new.line ≡ self.old.line }
-        ensures field { option_map told result ≡ first (fields_left self.old) }
         ensures part { IfSome result (λ f. Borrows self.old.line f) }
-        ensures left { fields_left self.new ≡ rest (fields_left self.old) }
     {
         if self.place > self.line.len() {
             return None;
@@ -118,16 +121,6 @@ impl<'a> Fields<'a> {
         let column = self.place + 1;
         self.place = column + bytes.len();
         Some(read_field(column, bytes))
-    }
-
-    // How many fields are left.
-    pub fn left(&self) -> usize
-        ensures { result ≡ length (fields_left self.now) }
-    {
-        if self.place > self.line.len() {
-            return 0;
-        }
-        spaces(&self.line[self.place..]) + 1
     }
 }
 
@@ -140,7 +133,7 @@ pub fn heading<'a>(line: &'a [u8]) -> Option<(u8, Fields<'a>)>
         return None;
     }
     let mut fields = Fields::new(line);
-    match fields.next_field()? {
+    match fields.next()? {
         Field::Letter { letter, .. } => Some((letter, fields)),
         _ => None,
     }

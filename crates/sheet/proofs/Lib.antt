@@ -1,4 +1,3 @@
 mod Fills
-mod Headers
 mod Marks
 mod Openings

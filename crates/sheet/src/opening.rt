@@ -1,8 +1,7 @@
-ghost use Rattle.std.specs.Prelude.{◌≡◌, ◌+◌, ◌≤◌, length, drop, IfOk, Ok, codes};
+ghost use Rattle.std.specs.Prelude.{◌≡◌, ◌≤◌, length, drop, IfOk, Ok, codes};
 ghost use Rattle.calendar.specs.Told.{week_of, runs_of, below_of};
-ghost use Rattle.reading.specs.Results.{map_ok, map_err};
+ghost use Rattle.reading.specs.Results.{map_ok};
 ghost use Rattle.reading.specs.Told.{lines_left};
-ghost use Rattle.sheet.specs.Faults.{refused_at};
 ghost use Rattle.sheet.specs.Header.{version_of, mark_line, week_from, week_line, runs_from, runs_line, opened, header};
 ghost use Rattle.sheet.specs.Told.{lines_read, asked_of};
 
@@ -82,35 +81,24 @@ pub fn closing(line: &[u8], week: Weekly) -> Result<Closing<Weekly>, SheetFault>
     closing_of_numbers(numbers.as_slice(), week)
 }
 
-// A line's result, with the number of the line where it is a fault.
-fn located<T>(line: usize, res: Result<T, SheetFault>) -> Result<T, Refusal>
-    ensures { result ≡ map_err (refused_at line) res }
-{
-    match res {
-        Ok(value) => Ok(value),
-        Err(fault) => Err(fault.at(line)),
-    }
-}
-
 // Reads the next three lines as those that open a sheet.
 pub fn open(lines: &mut Lines) -> Result<Closing<Weekly>, Refusal>
     ensures asked { map_ok asked_of result ≡ opened (lines_left lines.old) }
     ensures sheet { lines.new.sheet ≡ lines.old.sheet }
     ensures left { lines_left lines.new ≡ drop (lines_read result) (lines_left lines.old) }
-    ensures all { lines.new.count + length (lines_left lines.new) ≡ lines.old.count + length (lines_left lines.old) }
 {
-    let Some(line) = lines.next_line() else {
+    let Some(line) = lines.next() else {
         return Err(SheetFault::Missing(1).at(1));
     };
-    located(1, mark(line))?;
-    let Some(line) = lines.next_line() else {
+    mark(line).map_err(|fault| fault.at(1))?;
+    let Some(line) = lines.next() else {
         return Err(SheetFault::Missing(2).at(2));
     };
-    let week = located(2, week(line))?;
-    let Some(line) = lines.next_line() else {
+    let week = week(line).map_err(|fault| fault.at(2))?;
+    let Some(line) = lines.next() else {
         return Err(SheetFault::Missing(3).at(3));
     };
-    located(3, closing(line, week))
+    closing(line, week).map_err(|fault| fault.at(3))
 }
 
 // The calendar that a sheet opens with.

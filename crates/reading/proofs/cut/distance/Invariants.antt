@@ -1,6 +1,0 @@
-use Rattle.std.proofs.Common.{◌≡◌, ◌+◌, drop}
-use Rattle.reading.specs.Pieces.{before}
-use Rattle.reading.proofs.cut.distance.Given as goal
-
-abbrev pub invariant-loop-i : goal.invariant-loop-i
-invariant-loop-i l = l.i + before l.end (drop l.i l.bytes) ≡ before l.end l.bytes
