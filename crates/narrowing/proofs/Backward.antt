@@ -13,15 +13,6 @@ pub record RightFrom (k d b : ℕ) (ls : ℕ → ℕ) (ws : List Window) (N : �
   pub attained : (v : ℕ) → b ≤ v → v < d → (N v ≡ ls v + N (suc v)) ⊎ ((q : ℕ) × (v < q) × (q ≤ d) × (N v ≡ forced k ws v q + N q))
   pub later : (v : ℕ) → v < b → (N v ≡ 0) ⊎ ((q : ℕ) × (b < q) × (q ≤ d) × (N v ≡ forced k ws v q + N q))
 
-pub right_none : (k d : ℕ) (ls : ℕ → ℕ) (ws : List Window) (N : ℕ → ℕ) → ((v : ℕ) → N v ≡ 0) → RightFrom k d d ls ws N
-right_none k d ls ws N z = record {
-  end = z d;
-  by_day = λ v h l. absurd (omega arith);
-  by_run = λ p q h l m. absurd (omega arith);
-  attained = λ v h l. absurd (omega arith);
-  later = λ v h. inl (z v);
-}
-
 pub right_all : (k d : ℕ) (ls : ℕ → ℕ) (ws : List Window) (N : ℕ → ℕ) → Starts k ws → RightFrom k d 0 ls ws N → NeedRight k d ls ws N
 right_all k d ls ws N S R = record {
   end = R.end;

@@ -4,7 +4,7 @@ use Rattle.std.proofs.lemmas.Bool.{cases_lt, cases_Bool, both_ways, eqb-true, eq
 use Rattle.plans.specs.Plans.{Window, Pair, most}
 use Rattle.plans.specs.Runs.{sum}
 use Rattle.plans.specs.Needs.{forced}
-use Rattle.plans.specs.Tight.{Tight, Earliest, Latest}
+use Rattle.plans.specs.Tight.{Tight}
 use Rattle.narrowing.specs.Scanning.{tight?}
 
 -- the first of n places that a test tells, or the end where it tells none
@@ -71,9 +71,6 @@ module _ (k : ℕ) (pairs : List Pair) (ws : List Window) (M N : ℕ → ℕ) wh
                 subst P e at lt
           ]
 
-  pub early_all : (b : ℕ) (m : ℕ → ℕ) → b ≡ length pairs → EarlyTo b m → Earliest k pairs ws M N m
-  early_all b m e E = record { earliest = λ p q h l t. E.earliest p q h (omega arith) t; tight = λ q l h. E.tight q (omega arith) h }
-
   -- the latest ends, of the tight runs that end at b or before
   pub record LateTo (b : ℕ) (m : ℕ → ℕ) : Type 0 where
     pub latest : (p q : ℕ) → p < q → q ≤ b → Tight k pairs ws M N p q → q ≤ m p
@@ -110,6 +107,3 @@ module _ (k : ℕ) (pairs : List Pair) (ws : List Window) (M N : ℕ → ℕ) wh
               | inr f ↦ let e = keep p f in let r = L.tight p (omega arith) in subst P (sym e) (omega (arith, r.0), r.1)
             ]
           ]
-
-  pub late_all : (b : ℕ) (m : ℕ → ℕ) → b ≡ length pairs → LateTo b m → Latest k pairs ws M N m
-  late_all b m e L = record { latest = λ p q h l t. L.latest p q h (omega arith) t; tight = λ p h. let r = L.tight p h in (omega (arith, r.0), r.1) }

@@ -12,6 +12,7 @@ fn lift(row: &[u16], after: u32, needs: &mut [u32])
     requires after_bound { after < 2147483648 }
     ensures { (p : ℕ) → p < length row.now → slice_index needs.new p ≡ max (slice_index needs.old p) (slice_index row.now p + after) }
 {
+    // The row by index, and no zip: of what is written through an adapter of iter_mut a proof knows only the length.
     for (p, need) in needs.iter_mut().enumerate() {
         *need = (*need).max(row[p] as u32 + after);
     }
@@ -23,6 +24,7 @@ pub(crate) fn needs_right(pairs: &[(u16, u16)], table: &[u16; CELLS], right: &mu
     requires blank { Blank right.old }
     ensures { RightNeedsOf pairs.now table.now right.new }
 {
+    // By the day, which names the row and the needs as well as the pair.
     for v in (0..pairs.len()).rev() {
         let after = right[v + 1];
         lift(row(table, v), after, &mut right[..v + 1]);

@@ -13,6 +13,7 @@ fn step<F: Fn(u8) -> bool>(day: u8, found: &mut [u8], row: &mut [u8], takes: F)
     ensures found { (i : ℕ) → i < length found.old → Stepped (F.post takes) day (slice_index found.old i) (slice_index found.new i) }
     ensures row { (i : ℕ) → i < length found.old → slice_index row.new i ≡ slice_index found.new i }
 {
+    // The row by index, and no zip: of what is written through an adapter of iter_mut a proof knows only the length.
     for (i, each) in found.iter_mut().enumerate() {
         *each = if takes(*each) { day } else { *each };
         row[i] = *each;
@@ -27,6 +28,7 @@ pub(crate) fn lows(days: usize, earliest: &[u16; EDGES], table: &mut [u8; CELLS]
     let mut low = [0u8; MOST_DAYS];
     for b in 0..days {
         low[b] = b as u8;
+        // The row is cut out by index: of what is written through chunks_exact_mut a proof knows only the length.
         let early = earliest[b];
         step(
             b as u8,
@@ -38,7 +40,8 @@ pub(crate) fn lows(days: usize, earliest: &[u16; EDGES], table: &mut [u8; CELLS]
 }
 
 // Writes the highest days; before the diagonal the table stays. A tight run that has the highest day and begins just after
-// the first day makes that one the highest.
+// the first day makes that one the highest. A function of its own: its rows come from the last day back, and end where the
+// days end.
 pub(crate) fn highs(days: usize, latest: &[u16; EDGES], table: &mut [u8; CELLS])
     requires { days ≤ 128 }
     ensures above { Highs days latest.now table.new }

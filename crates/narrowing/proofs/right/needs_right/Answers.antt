@@ -1,4 +1,4 @@
-use Rattle.std.proofs.Common.{◌≡◌, ℕ, suc, ◌+◌, ◌-◌, ◌*◌, ◌<◌, ◌≤◌, max, List, ◌++◌, length, get_or, drop, set, sym, ap, ◌∙◌, subst, inl, inr, add-one, arith}
+use Rattle.std.proofs.Common.{◌≡◌, ℕ, suc, ◌+◌, ◌-◌, ◌*◌, ◌<◌, ◌≤◌, max, List, ◌++◌, length, get_or, drop, set, ap, ◌∙◌, subst, inl, inr, add-one, arith}
 use Rattle.std.proofs.lemmas.List.{get_or-set_same, get_or-set_other}
 use Rattle.std.proofs.lemmas.Bool.{cases_lt, cases_eq}
 use Rattle.plans.specs.Plans.{fewest}
@@ -6,25 +6,8 @@ use Rattle.plans.specs.Needs.{forced}
 use Rattle.plans.proofs.Windows.{forced_none}
 use Rattle.narrowing.specs.Counting.{tabled}
 use Rattle.narrowing.proofs.Parts.{front_length, front_at, over_length, over_low, over_high}
-use Rattle.narrowing.proofs.Backward.{RightFrom, right_none, right_more, right_all}
+use Rattle.narrowing.proofs.Backward.{RightFrom, right_more, right_all}
 use Rattle.narrowing.proofs.right.needs_right.Goals as goal
-
-pub loop-v-init : goal.loop-v-init
-loop-v-init c = (
-  (λ k ws C. right_none k (length c.args.pairs.now) (fewest c.args.pairs.now) ws (tabled c.args.right.now) c.requires.blank),
-  λ j h. omega (arith, c.requires.blank j),
-)
-
-pub lift-requires : goal.lift-requires
-lift-requires c =
-    let v : ℕ = c.loop-v.v - 1 in
-    let ys = c.loop-v.right in
-    let n = c.row.ensures.long in
-    let m = front_length ys v 129 (omega arith) (omega arith) in
-    record {
-      row_len = n ∙ sym m;
-      after_bound = omega (arith, c.loop-v.invariant.1 (v + 1) (omega arith));
-    }
 
 pub loop-v-preserved : goal.loop-v-preserved
 loop-v-preserved c =

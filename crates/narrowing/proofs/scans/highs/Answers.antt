@@ -7,15 +7,6 @@ use Rattle.narrowing.specs.Scanning.{high_day}
 use Rattle.narrowing.proofs.ScanSteps.{high_one, high_more, either_way, part_long, part_cell, mid_long, mid_new, mid_before, mid_after}
 use Rattle.narrowing.proofs.scans.highs.Goals as goal
 
-pub step-requires-clause-row_len : goal.step-requires-clause-row_len
-step-requires-clause-row_len c =
-    let a : ℕ = c.loop-a.a - 1 in
-    let d : ℕ = c.args.days in
-    let hs = c.loop-a.high in
-    let n = part_long c.loop-a.table (a * 128 + a) (a * 128 + d) (omega arith) (omega arith) in
-    let m = part_long (set hs a a) a d (omega arith) (omega (arith, length-set hs a a, c.loop-a.invariant.0, c.requires)) in
-    omega arith
-
 pub loop-a-preserved : goal.loop-a-preserved
 loop-a-preserved c =
     let p : ℕ = c.loop-a.a in
@@ -75,6 +66,3 @@ loop-a-preserved c =
         | inr e ↦ mid_after xs row r s (b * 128 + i) (omega arith) (omega arith) rl (omega arith) ∙ c.loop-a.invariant.3 i b h l
       ]),
     )
-
-pub returns : goal.returns
-returns c = record { above = λ a b h l. c.loop-a.invariant.1 a b (omega arith) h l; below = c.loop-a.invariant.3 }

@@ -7,14 +7,6 @@ use Rattle.narrowing.proofs.ScanSteps.{low_one, low_more, either_way}
 use Rattle.narrowing.proofs.Parts.{part_length, put, put_same, put_low, front_length, front_at, over_length, over_low}
 use Rattle.narrowing.proofs.scans.lows.Goals as goal
 
-pub step-requires-clause-row_len : goal.step-requires-clause-row_len
-step-requires-clause-row_len c =
-    let b : ℕ = c.loop-b.b in
-    let ls = c.loop-b.low in
-    let n = part_length c.loop-b.table b (omega arith) (omega arith) in
-    let m = front_length (set ls b b) b 128 (length-set ls b b ∙ c.loop-b.invariant.0) (omega arith) in
-    m ∙ sym n
-
 pub loop-b-preserved : goal.loop-b-preserved
 loop-b-preserved c =
     let b : ℕ = c.loop-b.b in

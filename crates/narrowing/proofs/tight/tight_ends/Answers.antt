@@ -8,36 +8,21 @@ use Rattle.plans.proofs.Windows.{total_grows}
 use Rattle.narrowing.specs.Counting.{Counted, tabled}
 use Rattle.narrowing.specs.Scanning.{tight?}
 use Rattle.narrowing.proofs.Parts.{front_length, front_at, over_length, over_low, over_high}
-use Rattle.narrowing.proofs.TightEnds.{tells_tight, first_or, EarlyTo, early_more, early_all, LateTo, late_more, late_all}
+use Rattle.narrowing.proofs.TightEnds.{tells_tight, first_or, EarlyTo, early_more, LateTo, late_more}
 use Rattle.narrowing.proofs.tight.tight_ends.Goals as goal
 
-pub overflow_sub-runs : goal.overflow_sub-runs
-overflow_sub-runs c = omega (arith, c.requires.needs_meet (c.loop-v.v + 1) (omega arith))
-
-pub invariant_of-runs : goal.invariant_of-runs
-invariant_of-runs c =
+pub invariant_of-runs-clause-before_bound : goal.invariant_of-runs-clause-before_bound
+invariant_of-runs-clause-before_bound c p h =
     let b : ℕ = c.loop-v.v in
     let us : ℕ → ℕ = most c.args.pairs.now in
-    let ys = c.args.before.now in
-    let zs = c.args.left.now in
     let n = c.row.ensures.long in
-    let my = front_length ys b 129 (omega arith) (omega arith) in
-    let mz = front_length zs b 129 (omega arith) (omega arith) in record {
-      one_len = (n ∙ sym my, n ∙ sym mz);
-      before_bound = (λ p h. omega (arith, front_at ys b p (omega arith), c.requires.summed p (omega arith), c.requires.summed (b + 1) (omega arith), total_grows us p (b + 1) (omega arith)));
-      left_bound = (λ p h. omega (arith, front_at zs b p (omega arith), c.requires.needs_meet p (omega arith), c.requires.pairs_len_bound));
-    }
+    omega (arith, front_at c.args.before.now b p (omega arith), c.requires.summed p (omega arith), c.requires.summed (b + 1) (omega arith), total_grows us p (b + 1) (omega arith))
 
-pub loop-v-init : goal.loop-v-init
-loop-v-init c = (
-  (λ k ws C n. (
-    record { earliest = λ p q h l t. absurd (omega arith); tight = λ q h l. absurd (omega arith) },
-    record { latest = λ p q h l t. absurd (omega arith); tight = λ p h. absurd (omega (arith, c.requires.blank p)) },
-  )),
-  λ p. omega (arith, c.requires.blank p),
-  omega arith,
-  omega arith,
-)
+pub invariant_of-runs-clause-left_bound : goal.invariant_of-runs-clause-left_bound
+invariant_of-runs-clause-left_bound c p h =
+    let b : ℕ = c.loop-v.v in
+    let n = c.row.ensures.long in
+    omega (arith, front_at c.args.left.now b p (omega arith), c.requires.needs_meet p (omega arith), c.requires.pairs_len_bound)
 
 pub loop-v-preserved : goal.loop-v-preserved
 loop-v-preserved c =
@@ -103,14 +88,3 @@ loop-v-preserved c =
     either : (t : Bool) (e x : ℕ) → x ≤ e → cond t e x ≤ e
     either true e x h = omega arith
     either false e x h = h
-
-pub returns : goal.returns
-returns c =
-    let b : ℕ = c.loop-v.v in
-    let e : b ≡ length c.args.pairs.now = omega arith in
-    let M : ℕ → ℕ = tabled c.args.left.now in
-    let N : ℕ → ℕ = tabled c.args.right.now in
-    record {
-      early = λ k ws C n. early_all k c.args.pairs.now ws M N b (tabled c.loop-v.earliest) e (c.loop-v.invariant.0 k ws C n).0;
-      late = λ k ws C n. late_all k c.args.pairs.now ws M N b (tabled c.loop-v.latest) e (c.loop-v.invariant.0 k ws C n).1;
-    }
