@@ -1,13 +1,27 @@
-use Rattle.orders.proofs.Places.{sought_on, sought_here, sought_all}
+use Rattle.std.proofs.Common.{ℕ, ltb, List, rules, arith}
+use Rattle.std.proofs.lemmas.List.Sorted.{IsPartitionPoint-from_clause}
+use Rattle.orders.specs.declared.order.Order.{Order}
+use Rattle.orders.proofs.Places.{unused, parted_below, sought_here, sought_past}
 use Rattle.orders.proofs.listing.find.Goals as goal
+use Rattle.orders.proofs.listing.find.Goals.{else-place-orders-via-then-place-orders+else-orders-place, else-place-orders-via-else-place-orders}
 
-pub returns-then-order-number : goal.returns-then-order-number
-returns-then-order-number c =
-    sought_here c.args.number c.args.orders.now c.loop-place.place c.loop-place-test.true c.loop-place.invariant c.if-order-number.true
-
-pub loop-place-preserved : goal.loop-place-preserved
-loop-place-preserved c =
-    sought_on c.args.number c.args.orders.now c.loop-place.place c.loop-place-test.true c.loop-place.invariant c.if-order-number.false
+pub returns-then-orders-place : goal.returns-then-orders-place
+returns-then-orders-place c =
+    let n : ℕ = c.args.number in
+    let os : List Order = c.args.orders.now in
+    let i : ℕ = c.partition_point-place.result in
+    let s = IsPartitionPoint-from_clause (λ (o : Order). ltb o.number n) os i c.partition_point-place.ensures.partitioned (parted_below n os c.requires) (λ a r f h. search rules) in
+    sought_here n os c.requires i s unused c.if-place-orders.true c.if-orders-place.true
 
 pub returns : goal.returns
-returns c = sought_all c.args.number c.args.orders.now c.loop-place.place c.loop-place-test.false c.loop-place.invariant
+returns c =
+    let n : ℕ = c.args.number in
+    let os : List Order = c.args.orders.now in
+    let i : ℕ = c.partition_point-place.result in
+    let s = IsPartitionPoint-from_clause (λ (o : Order). ltb o.number n) os i c.partition_point-place.ensures.partitioned (parted_below n os c.requires) (λ a r f h. search rules) in
+    sought_past n os c.requires i s unused
+    (λ l e.
+    elim c.else-place-orders.branch [
+      | else-place-orders-via-then-place-orders+else-orders-place w ↦ w.if-orders-place.false e
+      | else-place-orders-via-else-place-orders w ↦ omega arith
+    ])
