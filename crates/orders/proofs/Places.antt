@@ -1,8 +1,9 @@
 -- The place of a number in a list of orders, where a search in halves finds it.
-use Rattle.std.proofs.Common.{◌≡◌, ℕ, zero, suc, ◌+◌, ◌<◌, ◌≤◌, Bool, true, false, cond, eqb, ltb, leb, List, [], ◌∷◌, map, length, get_or, Some, None, sym, refl, ap, inl, inr, arith}
+use Rattle.std.proofs.Common.{◌≡◌, ℕ, zero, suc, ◌+◌, ◌<◌, ◌≤◌, Bool, true, false, cond, eqb, ltb, leb, List, [], ◌∷◌, map, length, get_or, Some, None, sym, refl, ap, ◌∙◌, inl, inr, arith}
+use Rattle.std.specs.Bool.{then_some}
 use Rattle.std.specs.List.{AllByRecursion, prefix_len}
 use Rattle.std.specs.List.Sorted.{IsNonDecreasingBy, IsPartitionedBy, IsPartitionPoint}
-use Rattle.std.proofs.lemmas.Bool.{cases_lt, eq-eqb, ne_eqb, ltb-true, ltb-false}
+use Rattle.std.proofs.lemmas.Bool.{cases_Bool, cases_lt, eqb-true, eqb-false, eq-eqb, ne_eqb, ltb-true, ltb-false}
 use Rattle.std.proofs.lemmas.List.Sums.{prefix_len_is}
 use Rattle.std.proofs.lemmas.List.Sorted.{IsPartitionedBy-leb, IsPartitionedBy-ltb}
 use Rattle.records.specs.declared.record.bare.Window.{Window}
@@ -65,7 +66,7 @@ module _ (n : ℕ) (os : List Order) (h : InOrder (map entry_of os)) where
     below : (d : Order) (k : ℕ) → k < i → (get_or os k d).number < n
     below d k l = ltb-true (get_or os k d).number n (s.0 k d (omega arith) l)
 
-    pub sought_here : (d : Order) → i < length os → (get_or os i d).number ≡ n → Some i ≡ place_in n (map entry_of os)
+    sought_here : (d : Order) → i < length os → (get_or os i d).number ≡ n → Some i ≡ place_in n (map entry_of os)
     sought_here d l e = let f = found_at n os i d l (below d) e in rw f.0 (ap Some f.1)
 
     pub sought_past : (d : Order) → (i < length os → (get_or os i d).number ≡ n → ⊥) → None ≡ place_in n (map entry_of os)
@@ -81,3 +82,11 @@ module _ (n : ℕ) (os : List Order) (h : InOrder (map entry_of os)) where
         ]
         in
         rw (found_nowhere n os d other)
+
+    -- the order there has the number, or none has it
+    pub sought : (o d : Order) → i < length os → o ≡ get_or os i d → then_some (eqb o.number n) i ≡ place_in n (map entry_of os)
+    sought o d l here =
+        elim (cases_Bool (eqb o.number n)) [
+          | inl t ↦ rw t (sought_here d l (ap (λ p. p.number) (sym here) ∙ eqb-true o.number n t))
+          | inr f ↦ rw f (sought_past d (λ k e. eqb-false o.number n f (ap (λ p. p.number) here ∙ e)))
+        ]

@@ -13,10 +13,8 @@ pub fn find(orders: &[Order], number: u16) -> Option<usize>
     ensures { result ≡ place_in number (map entry_of orders.now) }
 {
     let place = orders.partition_point(|order| order.number < number);
-    if place < orders.len() && orders[place].number == number {
-        return Some(place);
-    }
-    None
+    let order = orders.get(place)?;
+    (order.number == number).then_some(place)
 }
 
 // The place before the first order with a larger number.

@@ -6,6 +6,8 @@ use crate::order::Order;
 use records::limits::MOST_RECORDS;
 
 // At most 512 orders, the first `len` of `orders`, in ascending order of number.
+// An array and a count: a table is `Copy`, which a vector inside it would not be.
+// No method lends the orders as `&mut [Order]`: whoever has them could leave them out of order.
 #[derive(Clone, Copy)]
 pub struct Table {
     orders: [Order; MOST_RECORDS],

@@ -1,10 +1,10 @@
-use Rattle.std.proofs.Common.{sym, subst, length, ◌≡◌, ℕ, ◌-◌, List, ◌++◌, map, take, drop, ap, ◌∙◌, arith}
+use Rattle.std.proofs.Common.{◌≡◌, ℕ, ◌-◌, List, ◌++◌, map, length, take, drop, sym, ap, ◌∙◌, subst, arith}
 use Rattle.orders.specs.declared.order.Order.{Order}
 use Rattle.orders.specs.declared.table.Table.{Table}
 use Rattle.orders.specs.Records.{told_span, entry_of, told_begun}
 use Rattle.orders.specs.Lists.{InOrder}
 use Rattle.orders.specs.Tables.{listed, held_in}
-use Rattle.orders.proofs.Tables.{lent_long, lent_all, front_lent}
+use Rattle.orders.proofs.Tables.{lent_all, front_lent}
 use Rattle.orders.proofs.Telling.{begin_entries, begin_told}
 use Rattle.orders.proofs.table.Table.begin_at.Goals as goal
 
@@ -17,14 +17,10 @@ module _ (t : Table) (today : ℕ) (ys : List Order) (long : length ys ≡ lengt
   held : map entry_of (take t.len (ys ++ drop (t.len - 0) t.orders)) ≡ held_in t
   held = ap (map entry_of) now ∙ begin_entries today (listed t)
 
-pub invariant_of-self : goal.invariant_of-self
-invariant_of-self c =
+pub invariant_of-self-clause-sorted : goal.invariant_of-self-clause-sorted
+invariant_of-self-clause-sorted c =
     let t = c.args.self.now in
-    record {
-      full = lent_long t.orders c.begin_at.new.orders t.len (omega arith) c.begin_at.auto.orders ∙ t.full;
-      few = t.few;
-      sorted = subst InOrder (sym (held t c.args.today c.begin_at.new.orders c.begin_at.auto.orders c.begin_at.ensures)) t.sorted;
-    }
+    subst InOrder (sym (held t c.args.today c.begin_at.new.orders c.begin_at.auto.orders c.begin_at.ensures)) t.sorted
 
 pub returns : goal.returns
 returns c =

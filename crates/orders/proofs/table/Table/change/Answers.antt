@@ -1,5 +1,4 @@
-use Rattle.std.proofs.Common.{◌≡◌, ℕ, List, map, get_or, take, set, Some, sym, refl, subst, ap, ◌∙◌, arith}
-use Rattle.std.proofs.lemmas.List.{length-set}
+use Rattle.std.proofs.Common.{◌≡◌, ℕ, List, map, get_or, take, set, Some, sym, refl, ap, ◌∙◌, subst}
 use Rattle.records.specs.declared.record.bare.Window.{Window}
 use Rattle.records.specs.Bare.{span_of}
 use Rattle.ledger.specs.Orders.{rewindow}
@@ -28,18 +27,12 @@ module _ (t : Table) (n : ℕ) (w : Window) (i : ℕ) (found_there : Some i ≡ 
       ap (map entry_of) now ∙ ap (λ p. map entry_of (set (listed t) p (reasked w (get_or (listed t) p unused)))) (found n (held_in t) i found_there).0
       ∙ rewindow_map n w (listed t) unused
 
-pub offset_bounds-self-place : goal.offset_bounds-self-place
-offset_bounds-self-place c = omega (arith, found_within c.args.self.now c.args.number c.in-Some.place c.in-Some.ensures)
-
-pub bounds-self-place : goal.bounds-self-place
-bounds-self-place c = omega (arith, found_within c.args.self.now c.args.number c.in-Some.place c.in-Some.ensures)
-
-pub invariant_of-self : goal.invariant_of-self
-invariant_of-self c =
+pub invariant_of-self-clause-sorted : goal.invariant_of-self-clause-sorted
+invariant_of-self-clause-sorted c =
     let t = c.args.self.now in
     let n : ℕ = c.args.number in
     let e = held t n c.args.asked c.in-Some.place c.in-Some.ensures in
-    record { full = length-set t.orders _ _ ∙ t.full; few = t.few; sorted = subst InOrder (sym e) (in_order_rewindow n (span_of c.args.asked) (held_in t) t.sorted) }
+    subst InOrder (sym e) (in_order_rewindow n (span_of c.args.asked) (held_in t) t.sorted)
 
 pub returns-in-Some : goal.returns-in-Some
 returns-in-Some c =

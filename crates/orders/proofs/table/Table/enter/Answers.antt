@@ -1,9 +1,8 @@
-use Rattle.std.proofs.Common.{◌<◌, sym, ◌++◌, drop, subst, ◌≡◌, ℕ, ◌+◌, ◌-◌, ◌≤◌, true, false, List, Some, map, length, take, set, ap, ◌∙◌, arith}
-use borrow.Rule.Slice.PartMut.{put_mid, mid_of, same_len_mid}
+use Rattle.std.proofs.Common.{◌≡◌, ℕ, ◌+◌, ◌-◌, ◌<◌, ◌≤◌, true, List, ◌++◌, map, length, take, drop, set, Some, sym, ap, ◌∙◌, subst, arith}
+use borrow.Rule.Slice.PartMut.{put_mid, mid_of}
 use Rattle.std.specs.List.{insert}
-use Rattle.std.proofs.lemmas.List.{length-set}
 use Rattle.std.proofs.lemmas.List.Sums.{prefix_len-le-length}
-use Rattle.std.proofs.lemmas.Bool.{lt-ltb, le-ltb}
+use Rattle.std.proofs.lemmas.Bool.{lt-ltb}
 use Rattle.ledger.specs.Orders.{enter}
 use Rattle.orders.specs.declared.order.Order.{Order}
 use Rattle.orders.specs.declared.table.Table.{Table}
@@ -30,24 +29,15 @@ module _ (t : Table) (o : Order) (at : ℕ) (ys : List Order) (room : t.len < 51
   held : map entry_of after ≡ enter (entry_of o) (held_in t)
   held = ap (map entry_of) now ∙ enter_map o (listed t)
 
-pub returns-then-count-eq-MOST_RECORDS : goal.returns-then-count-eq-MOST_RECORDS
-returns-then-count-eq-MOST_RECORDS c =
-    let full : has_room c.args.self.now ≡ false = le-ltb _ 512 (omega (arith, long c.args.self.now)) in
-    record { answer = rw full; held = rw full; told = rw full }
-
-pub invariant_of-self : goal.invariant_of-self
-invariant_of-self c =
+pub invariant_of-self-clause-sorted : goal.invariant_of-self-clause-sorted
+invariant_of-self-clause-sorted c =
     let t = c.args.self.now in
     let at : ℕ = c.place_for-place.result in
     let o : Order = new_order c.args.number c.args.asked in
     let ys : List Order = c.rotate_right.new.self in
     let place : at ≡ entry_place c.args.number (held_in t) = c.place_for-place.ensures.place ∙ ap (λ l. entry_place c.args.number (map entry_of l)) c.as_slice.ensures in
     let new = c.new.ensures in
-    record {
-      full = same_len_mid at (t.len + 1 - at) (set t.orders t.len c.new.result) ys c.rotate_right.ensures.len ∙ length-set t.orders t.len c.new.result ∙ t.full;
-      few = omega arith;
-      sorted = rw new (subst InOrder (sym (held t o at ys (omega arith) place (rw new at c.rotate_right.ensures.after))) (in_order_enter (entry_of o) (held_in t) t.sorted));
-    }
+    rw new (subst InOrder (sym (held t o at ys (omega arith) place (rw new at c.rotate_right.ensures.after))) (in_order_enter (entry_of o) (held_in t) t.sorted))
 
 pub returns : goal.returns
 returns c =

@@ -1,7 +1,6 @@
-use Rattle.std.proofs.Common.{◌++◌, drop, Some, subst, ◌≡◌, ℕ, ◌-◌, List, map, take, sym, ap, ◌∙◌, arith}
-use borrow.Rule.Slice.PartMut.{put_mid, mid_of, same_len_mid}
+use Rattle.std.proofs.Common.{◌≡◌, ℕ, ◌-◌, List, ◌++◌, map, take, drop, Some, sym, ap, ◌∙◌, subst, arith}
+use borrow.Rule.Slice.PartMut.{put_mid, mid_of}
 use Rattle.std.specs.List.{remove}
-use Rattle.std.proofs.lemmas.List.Edits.{length-between}
 use Rattle.ledger.specs.Orders.{place, without}
 use Rattle.orders.specs.declared.order.Order.{Order}
 use Rattle.orders.specs.declared.table.Table.{Table}
@@ -26,32 +25,13 @@ module _ (t : Table) (n i : ℕ) (ys : List Order) (found_there : Some i ≡ pla
   held : map entry_of after ≡ without n (held_in t)
   held = ap (map entry_of) now ∙ without_map n (listed t)
 
-pub offset_bounds-self-place : goal.offset_bounds-self-place
-offset_bounds-self-place c = omega (arith, found_within c.args.self.now c.args.number c.in-Some.place c.in-Some.ensures)
-
-pub slice_bounds-rotate_left-count : goal.slice_bounds-rotate_left-count
-slice_bounds-rotate_left-count c = omega (arith, found_within c.args.self.now c.args.number c.in-Some.place c.in-Some.ensures)
-
-pub slice_bounds-rotate_left-start : goal.slice_bounds-rotate_left-start
-slice_bounds-rotate_left-start c = omega (arith, found_within c.args.self.now c.args.number c.in-Some.place c.in-Some.ensures)
-
-pub rotate_left-requires : goal.rotate_left-requires
-rotate_left-requires c =
-    let t = c.args.self.now in
-    let h = found_within t c.args.number c.in-Some.place c.in-Some.ensures in
-    omega (arith, h, length-between t.orders c.in-Some.place t.len (omega arith))
-
-pub invariant_of-self : goal.invariant_of-self
-invariant_of-self c =
+pub invariant_of-self-clause-sorted : goal.invariant_of-self-clause-sorted
+invariant_of-self-clause-sorted c =
     let t = c.args.self.now in
     let n : ℕ = c.args.number in
     let i : ℕ = c.in-Some.place in
     let ys : List Order = c.rotate_left.new.self in
-    record {
-      full = same_len_mid i (t.len - i) t.orders ys c.rotate_left.ensures.len ∙ t.full;
-      few = omega (arith, t.few);
-      sorted = subst InOrder (sym (held t n i ys c.in-Some.ensures c.rotate_left.ensures.after)) (in_order_without n (held_in t) t.sorted);
-    }
+    subst InOrder (sym (held t n i ys c.in-Some.ensures c.rotate_left.ensures.after)) (in_order_without n (held_in t) t.sorted)
 
 pub returns-in-Some : goal.returns-in-Some
 returns-in-Some c =
