@@ -1,5 +1,7 @@
 -- The place of a number
 pub mod Places
+-- Orders in ascending order of number
+pub mod Sorted
 -- Orders entered, changed and removed, and how the array is turned for it
 pub mod Edits
 pub mod Turns

@@ -1,7 +1,7 @@
 -- The orders that a list of days puts on a day, and those that it puts on other days.
-use Rattle.std.proofs.Common.{◌≡◌, ℕ, ◌+◌, ◌<◌, ◌≤◌, true, false, cond, eqb, List, [], ◌∷◌, ◌++◌, map, length, get_or, take, drop, set, min, sym, refl, ap, ◌∙◌, ap₂, inl, inr, arith}
+use Rattle.std.proofs.Common.{◌≡◌, ℕ, ◌+◌, ◌<◌, ◌≤◌, min, true, false, cond, eqb, List, [], ◌∷◌, ◌++◌, map, length, get_or, take, drop, set, sym, refl, ap, ◌∙◌, ap₂, inl, inr, arith}
 use Rattle.std.proofs.lemmas.List.{take_more_set, length-take-le, take-append-drop, append-nil, append_assoc, get_or-drop, drop-drop, drop-set-lt, at_drop_more, at_drop_all}
-use Rattle.std.proofs.lemmas.Bool.{ne_eqb, eq-eqb, cases_Bool, cases_lt}
+use Rattle.std.proofs.lemmas.Bool.{ne_eqb, eq-eqb, cases_lt}
 use Rattle.ledger.specs.Orders.{Order as Held, leaving, staying}
 use Rattle.ledger.specs.Replies.{onto}
 use Rattle.orders.specs.declared.order.Order.{Order}
@@ -16,9 +16,6 @@ module _ {A : Type 0} (all old : List A) where
     pub front : take n now ++ rest ≡ all
     pub back : drop k now ≡ drop k old
 
-  pub nothing_written : Written all 0 0 old
-  nothing_written = record { behind = omega arith; front = refl; back = refl }
-
   module _ (rest more : List A) (n k : ℕ) (now : List A) (w : Written rest n k now) where
     back_more : drop (k + 1) now ≡ drop (k + 1) old
     back_more = sym (drop-drop 1 k now) ∙ ap (drop 1) w.back ∙ drop-drop 1 k old
@@ -31,9 +28,6 @@ module _ {A : Type 0} (all old : List A) where
           front = ap (λ l. l ++ more) (take_more_set now n y h) ∙ append_assoc (take n now) (y ∷ []) more ∙ ap (λ l. take n now ++ l) (sym e) ∙ w.front;
           back = drop-set-lt (k + 1) now n y (omega arith) ∙ back_more;
         }
-
-    pub written_same : rest ≡ more → Written more n k now
-    written_same e = record { behind = w.behind; front = ap (λ l. take n now ++ l) (sym e) ∙ w.front; back = w.back }
 
     pub written_past : rest ≡ more → Written more n (k + 1) now
     written_past e = let b = w.behind in record { behind = omega arith; front = ap (λ l. take n now ++ l) (sym e) ∙ w.front; back = back_more }
@@ -100,13 +94,9 @@ leaving_end t ts i os e =
 pub off_map : {A B : Type 0} (f : A → B) (t : ℕ) (xs : List A) (ts : List ℕ) → map f (off t xs ts) ≡ off t (map f xs) ts
 off_map f t [] ts = refl
 off_map f t (x ∷ xs) [] = refl
-off_map f t (x ∷ xs) (u ∷ ts) =
-    let e = off_map f t xs ts in
-    elim (cases_Bool (eqb t u)) [ inl h ↦ rw h e | inr h ↦ rw h (ap (λ l. f x ∷ l) e) ]
+off_map f t (x ∷ xs) (u ∷ ts) = grind (arith, off_map f t xs ts)
 
 pub off_staying : (t : ℕ) (os : List Held) (ts : List ℕ) → off t os ts ≡ staying t os ts
 off_staying t [] ts = refl
 off_staying t (o ∷ os) [] = refl
-off_staying t (o ∷ os) (u ∷ ts) =
-    let e = off_staying t os ts in
-    elim (cases_Bool (eqb t u)) [ inl h ↦ rw h e | inr h ↦ rw h (ap (λ l. o ∷ l) e) ]
+off_staying t (o ∷ os) (u ∷ ts) = grind (arith, off_staying t os ts)

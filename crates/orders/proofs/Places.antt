@@ -1,65 +1,92 @@
--- The place of a number in a list of orders.
-use Rattle.std.proofs.Common.{◌≡◌, ℕ, suc, ◌+◌, ◌<◌, ◌≤◌, false, cond, ◌||◌, eqb, leb, List, map, length, get_or, drop, Some, None, arith}
-use Rattle.std.proofs.lemmas.List.{at_drop_more, at_drop_all}
-use Rattle.std.proofs.lemmas.Bool.Decides.{nat_tests}
+-- The place of a number in a list of orders, where a search in halves finds it.
+use Rattle.std.proofs.Common.{◌≡◌, ℕ, zero, suc, ◌+◌, ◌<◌, ◌≤◌, Bool, true, false, cond, eqb, ltb, leb, List, [], ◌∷◌, map, length, get_or, Some, None, sym, refl, ap, ◌∙◌, inl, inr, arith}
+use Rattle.std.specs.Bool.{then_some}
+use Rattle.std.specs.List.{AllByRecursion, prefix_len}
+use Rattle.std.specs.List.Sorted.{IsNonDecreasingBy, IsPartitionedBy, IsPartitionPoint}
+use Rattle.std.proofs.lemmas.Bool.{cases_Bool, cases_lt, eqb-true, eqb-false, eq-eqb, ne_eqb, ltb-true, ltb-false}
+use Rattle.std.proofs.lemmas.List.Sums.{prefix_len_is}
+use Rattle.std.proofs.lemmas.List.Sorted.{IsPartitionedBy-leb, IsPartitionedBy-ltb}
 use Rattle.records.specs.declared.record.bare.Window.{Window}
-use Rattle.ledger.specs.Orders.{Order as Held, holds, place}
+use Rattle.ledger.specs.Orders.{holds, place}
 use Rattle.orders.specs.declared.order.Order.{Order}
 use Rattle.orders.specs.Records.{new_order, entry_of}
-use Rattle.orders.specs.Lists.{place_in, entry_place}
+use Rattle.orders.specs.Lists.{InOrder, place_in, entry_place}
 
 -- what stands past the end of a list
 abbrev pub unused : Order
 unused = let none : Window = record { first = 0; last = 0 } in new_order 0 none
 
-module _ (n : ℕ) (os : List Order) where
-  abbrev from : ℕ → List Held
-  from i = map entry_of (drop i os)
+at_least_at : (k : ℕ) (os : List Order) (j : ℕ) (d : Order) → AllByRecursion (λ p. k ≤ p.number) (map entry_of os) → j < length os → k ≤ (get_or os j d).number
+at_least_at k [] j d h l = absurd (omega arith)
+at_least_at k (o ∷ os) zero d h l = h.0
+at_least_at k (o ∷ os) (suc j) d h l = at_least_at k os j d h.1 (omega arith)
 
-  -- a search for the number has come to place i
-  pub record Sought (i : ℕ) : Type 0 where
-    pub held : holds n (from i) ≡ holds n (map entry_of os)
-    pub at : i + place n (from i) ≡ place n (map entry_of os)
+rises : (os : List Order) → InOrder (map entry_of os) → IsNonDecreasingBy (λ (o : Order). o.number) os
+rises [] h i j d l k = absurd (omega arith)
+rises (o ∷ os) h zero zero d l k = omega arith
+rises (o ∷ os) h zero (suc j) d l k = at_least_at o.number os j d h.0 (omega arith)
+rises (o ∷ os) h (suc i) zero d l k = absurd (omega arith)
+rises (o ∷ os) h (suc i) (suc j) d l k = rises os h.1 i j d (omega arith) (omega arith)
 
-  -- and so has a search for the place of entry
-  abbrev pub Passed : ℕ → Type 0
-  Passed i = i + entry_place n (from i) ≡ entry_place n (map entry_of os)
+-- where the elements that pass a test end
+pub point_is : {A : Type 0} (p : A → Bool) (xs : List A) (i : ℕ) (d : A) → i ≤ length xs → IsPartitionPoint (λ x. p x ≡ true) (λ x. p x ≡ false) xs i → i ≡ prefix_len p xs
+point_is p xs i d l s = sym (prefix_len_is p xs i d l (λ k h. s.0 k d (omega arith) h) (λ h. s.1 i d (omega arith) h))
 
-  module _ (i : ℕ) (h : i < length os) where
-    holds_at : holds n (from i) ≡ (eqb n (get_or os i unused).number || holds n (from (i + 1)))
-    holds_at = at_drop_more (λ l. holds n (map entry_of l)) os i unused h
+pub entry_map : (n : ℕ) (os : List Order) → entry_place n (map entry_of os) ≡ prefix_len (λ (o : Order). leb o.number n) os
+entry_map n [] = refl
+entry_map n (o ∷ os) = ap (λ k. cond (leb o.number n) (1 + k) 0) (entry_map n os)
 
-    place_at : place n (from i) ≡ cond (eqb n (get_or os i unused).number) 0 (suc (place n (from (i + 1))))
-    place_at = at_drop_more (λ l. place n (map entry_of l)) os i unused h
+-- a number is at the first place that is not below it, or nowhere
+module _ (n : ℕ) where
+  found_at : (os : List Order) (i : ℕ) (d : Order) → i < length os → ((k : ℕ) → k < i → (get_or os k d).number < n) → (get_or os i d).number ≡ n
+      → (holds n (map entry_of os) ≡ true) × (i ≡ place n (map entry_of os))
+  found_at [] i d l b e = absurd (omega arith)
+  found_at (o ∷ os) zero d l b e = let t : eqb n o.number ≡ true = eq-eqb n o.number (sym e) in (rw t, rw t)
+  found_at (o ∷ os) (suc i) d l b e =
+      let r = found_at os i d (omega arith) (λ k h. b (suc k) (omega arith)) e in
+      let s : o.number < n = b 0 (omega arith) in
+      let f : eqb n o.number ≡ false = ne_eqb n o.number (λ x. omega arith) in
+      (rw f r.0, rw f (ap suc r.1))
 
-    entry_at : entry_place n (from i) ≡ cond (leb (get_or os i unused).number n) (1 + entry_place n (from (i + 1))) 0
-    entry_at = at_drop_more (λ l. entry_place n (map entry_of l)) os i unused h
+  found_nowhere : (os : List Order) (d : Order) → ((k : ℕ) → k < length os → (get_or os k d).number ≡ n → ⊥) → holds n (map entry_of os) ≡ false
+  found_nowhere [] d b = refl
+  found_nowhere (o ∷ os) d b =
+      let f : eqb n o.number ≡ false = ne_eqb n o.number (λ x. b 0 (omega arith) (sym x)) in
+      rw f (found_nowhere os d (λ k h. b (suc k) (omega arith)))
 
-    pub sought_on : Sought i → ((get_or os i unused).number ≡ n → ⊥) → Sought (i + 1)
-    sought_on s other =
-        let a = holds_at in
-        let b = place_at in
-        record { held = grind (arith, nat_tests); at = grind (arith, nat_tests) }
+module _ (n : ℕ) (os : List Order) (h : InOrder (map entry_of os)) where
+  -- the tests of a search can be answered in halves
+  pub parted_below : IsPartitionedBy (λ (o : Order). ltb o.number n) os
+  parted_below = IsPartitionedBy-ltb (λ (o : Order). o.number) os n (rises os h)
 
-    pub sought_here : Sought i → (get_or os i unused).number ≡ n → Some i ≡ place_in n (map entry_of os)
-    sought_here s here =
-        let a = holds_at in
-        let b = place_at in
-        grind (arith, nat_tests)
+  pub parted_upto : IsPartitionedBy (λ (o : Order). leb o.number n) os
+  parted_upto = IsPartitionedBy-leb (λ (o : Order). o.number) os n (rises os h)
 
-    pub passed_on : Passed i → (get_or os i unused).number ≤ n → Passed (i + 1)
-    passed_on s low = let a = entry_at in grind (arith, nat_tests)
+  module _ (i : ℕ) (s : IsPartitionPoint (λ (o : Order). ltb o.number n ≡ true) (λ (o : Order). ltb o.number n ≡ false) os i) where
+    below : (d : Order) (k : ℕ) → k < i → (get_or os k d).number < n
+    below d k l = ltb-true (get_or os k d).number n (s.0 k d (omega arith) l)
 
-    pub passed_here : Passed i → n < (get_or os i unused).number → i ≡ entry_place n (map entry_of os)
-    passed_here s high = let a = entry_at in grind (arith, nat_tests)
+    sought_here : (d : Order) → i < length os → (get_or os i d).number ≡ n → Some i ≡ place_in n (map entry_of os)
+    sought_here d l e = let f = found_at n os i d l (below d) e in rw f.0 (ap Some f.1)
 
-  module _ (i : ℕ) (end : length os ≤ i) where
-    pub sought_all : Sought i → None ≡ place_in n (map entry_of os)
-    sought_all s =
-        let a : holds n (from i) ≡ false = at_drop_all (λ l. holds n (map entry_of l)) os i end in
-        grind (arith, nat_tests)
+    pub sought_past : (d : Order) → (i < length os → (get_or os i d).number ≡ n → ⊥) → None ≡ place_in n (map entry_of os)
+    sought_past d other_at =
+        let other : (k : ℕ) → k < length os → (get_or os k d).number ≡ n → ⊥ =
+        λ k l e.
+        elim (cases_lt k i) [
+          | inl b ↦ omega (arith, below d k b)
+          | inr b ↦
+              let up : (get_or os i d).number ≤ (get_or os k d).number = rises os h i k d b l in
+              let from : n ≤ (get_or os i d).number = ltb-false (get_or os i d).number n (s.1 i d (omega arith) (omega arith)) in
+              other_at (omega arith) (omega arith)
+        ]
+        in
+        rw (found_nowhere n os d other)
 
-    pub passed_all : Passed i → i ≡ entry_place n (map entry_of os)
-    passed_all s =
-        let a : entry_place n (from i) ≡ 0 = at_drop_all (λ l. entry_place n (map entry_of l)) os i end in
-        omega arith
+    -- the order there has the number, or none has it
+    pub sought : (o d : Order) → i < length os → o ≡ get_or os i d → then_some (eqb o.number n) i ≡ place_in n (map entry_of os)
+    sought o d l here =
+        elim (cases_Bool (eqb o.number n)) [
+          | inl t ↦ rw t (sought_here d l (ap (λ p. p.number) (sym here) ∙ eqb-true o.number n t))
+          | inr f ↦ rw f (sought_past d (λ k e. eqb-false o.number n f (ap (λ p. p.number) here ∙ e)))
+        ]

@@ -1,6 +1,6 @@
 -- A table and the lists that it stands for.
 use Rattle.std.proofs.Common.{◌≡◌, ℕ, ◌-◌, ◌<◌, ◌≤◌, List, ◌++◌, length, take, drop, Some, ap, ◌∙◌, arith}
-use Rattle.std.proofs.lemmas.List.{length-map, length-take-le, length-append, length-drop, take-append-le, take_at}
+use Rattle.std.proofs.lemmas.List.{length-map, length-take-le, take-append-le, take_at}
 use Rattle.orders.specs.declared.table.Table.{Table}
 use Rattle.orders.specs.Records.{entry_of}
 use Rattle.orders.specs.Lists.{place_in}
@@ -16,9 +16,6 @@ found_within t n i e = omega (arith, (found n (held_in t) i e).1, long t)
 
 -- what a loan of the first n leaves
 module _ {A : Type 0} (xs ys : List A) (n : ℕ) (h : n ≤ length xs) (e : length ys ≡ length (take (n - 0) xs)) where
-  pub lent_long : length (ys ++ drop (n - 0) xs) ≡ length xs
-  lent_long = let l = length-take-le (n - 0) xs (omega arith) in simp (length-append, length-drop) (omega arith)
-
   pub lent_front : (m : ℕ) → m ≤ n → take m (ys ++ drop (n - 0) xs) ≡ take m ys
   lent_front m k = let l = length-take-le (n - 0) xs (omega arith) in take-append-le m ys (drop (n - 0) xs) (omega arith)
 

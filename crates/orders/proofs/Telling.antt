@@ -1,6 +1,7 @@
 -- The windows that orders are told: begun at today, or narrowed. What the ledger keeps of the orders stays.
-use Rattle.std.proofs.Common.{◌≡◌, ℕ, List, [], ◌∷◌, map, Ok, Err, refl, ap, ◌∙◌}
+use Rattle.std.proofs.Common.{◌≡◌, ℕ, List, [], ◌∷◌, map, Ok, Err, sym, refl, ap, ◌∙◌}
 use Rattle.std.proofs.lemmas.List.{length-map}
+use Rattle.std.proofs.lemmas.Simd.{map-map}
 use Rattle.plans.specs.Plans.{Window, Pair}
 use Rattle.plans.specs.Narrowing.{narrowed}
 use Rattle.records.specs.Checks.{Outcome}
@@ -12,12 +13,10 @@ use Rattle.orders.specs.Records.{told_span, retold, entry_of, told_begun}
 use Rattle.orders.specs.Tables.{told_after}
 
 pub begin_entries : (today : ℕ) (os : List Order) → map entry_of (map (told_begun today) os) ≡ map entry_of os
-begin_entries today [] = refl
-begin_entries today (o ∷ os) = ap (λ l. entry_of o ∷ l) (begin_entries today os)
+begin_entries today os = map-map entry_of (told_begun today) os
 
 pub begin_told : (today : ℕ) (os : List Order) → map told_span (map (told_begun today) os) ≡ map (begun_at today) (map entry_of os)
-begin_told today [] = refl
-begin_told today (o ∷ os) = ap (λ l. begun_at today (entry_of o) ∷ l) (begin_told today os)
+begin_told today os = map-map told_span (told_begun today) os ∙ sym (map-map (begun_at today) entry_of os)
 
 placed_entries : (ws : List Window) (os : List Order) → map entry_of (placed retold ws os) ≡ map entry_of os
 placed_entries [] os = refl

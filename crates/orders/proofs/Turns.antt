@@ -1,23 +1,15 @@
--- The front of an array after a write, and after a turn of one of its parts by one place.
-use Rattle.std.proofs.Common.{◌≡◌, ℕ, zero, suc, ◌+◌, ◌-◌, ◌<◌, ◌≤◌, List, [], ◌∷◌, ◌++◌, length, get_or, take, drop, set, sym, refl, ap, ◌∙◌, add-one, arith}
+-- The front of an array after a change of one of its elements, and after a turn of one of its parts by one place.
+use Rattle.std.proofs.Common.{◌≡◌, ℕ, suc, ◌+◌, ◌-◌, ◌<◌, ◌≤◌, List, [], ◌∷◌, ◌++◌, length, get_or, take, drop, set, sym, ap, ◌∙◌, add-one, arith}
 use borrow.Rule.Slice.PartMut.{put_mid, mid_of}
 use Rattle.std.specs.List.{remove, insert}
+use Rattle.std.proofs.Math.Seq.{take-set-lt}
 use Rattle.std.proofs.lemmas.List.{length-append, length-drop, length-set, length-take-le, take_at, take-take, append_assoc, drop-drop, take_more_set, drop-append-le, drop_at, take-set-le, get_or-take}
 use Rattle.std.proofs.lemmas.Slice.{between_is}
 use Rattle.std.proofs.lemmas.List.Edits.{length-between}
 
--- the front after a write
-take_set_in : {A : Type 0} (n : ℕ) (xs : List A) (i : ℕ) (y : A) → take n (set xs i y) ≡ set (take n xs) i y
-take_set_in zero [] i y = refl
-take_set_in zero (x ∷ xs) zero y = refl
-take_set_in zero (x ∷ xs) (suc i) y = refl
-take_set_in (suc n) [] i y = refl
-take_set_in (suc n) (x ∷ xs) zero y = refl
-take_set_in (suc n) (x ∷ xs) (suc i) y = ap (λ l. x ∷ l) (take_set_in n xs i y)
-
 -- the front after one of its elements has changed
 pub front_changed : {A : Type 0} (f : A → A) (xs : List A) (n i : ℕ) (d : A) → i < n → take n (set xs i (f (get_or xs i d))) ≡ set (take n xs) i (f (get_or (take n xs) i d))
-front_changed f xs n i d h = take_set_in n xs i (f (get_or xs i d)) ∙ ap (λ x. set (take n xs) i (f x)) (sym (get_or-take n xs i d h))
+front_changed f xs n i d h = take-set-lt n xs i (f (get_or xs i d)) h ∙ ap (λ x. set (take n xs) i (f x)) (sym (get_or-take n xs i d h))
 
 -- an element is taken out of the first n by a turn to the left of what stands from it on
 pub turned_out : {A : Type 0} (xs ys : List A) (at n : ℕ) → at < n → n ≤ length xs

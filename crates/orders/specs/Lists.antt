@@ -1,7 +1,18 @@
--- Places in a list of orders.
-use Rattle.std.specs.Prelude.{ℕ, Bool, cond, List, [], ◌∷◌, Some, None, Option, ◌==◌, nat_le}
-use Rattle.std.specs.List.{prefix_len}
+-- Lists of orders in ascending order of number, and places in them.
+use Rattle.std.specs.Prelude.{ℕ, ◌≤◌, Bool, cond, List, [], ◌∷◌, Some, None, Option, ◌==◌, nat_le}
+use Rattle.std.specs.List.{AllByRecursion, AllByRecursion-prop, prefix_len}
+use Rattle.std.specs.Coded.{×_prop, Unit-prop, le_prop}
 use Rattle.ledger.specs.Orders.{Order, holds, place}
+
+-- No order stands before one with a smaller number.
+abbrev pub InOrder : List Order → Type 0
+InOrder [] = Unit {0}
+InOrder (o ∷ os) = AllByRecursion (λ p. o.number ≤ p.number) os × InOrder os
+
+-- That has at most one proof.
+pub InOrder-prop : (os : List Order) → IsProp (InOrder os)
+InOrder-prop [] = Unit-prop
+InOrder-prop (o ∷ os) = ×_prop (AllByRecursion-prop (λ p. o.number ≤ p.number) (λ p. le_prop) os) (InOrder-prop os)
 
 -- The place of a number, if it is held.
 abbrev pub place_in : ℕ → List Order → Option ℕ

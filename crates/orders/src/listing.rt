@@ -3,33 +3,27 @@ ghost use Rattle.std.specs.Prelude.{◌≡◌, ◌≤◌, map, length, take};
 ghost use Rattle.ledger.specs.Orders.{leaving};
 ghost use Rattle.ledger.specs.Replies.{onto};
 ghost use Rattle.orders.specs.Records.{entry_of, told_begun};
-ghost use Rattle.orders.specs.Lists.{place_in, entry_place, off};
+ghost use Rattle.orders.specs.Lists.{InOrder, place_in, entry_place, off};
 
 use crate::order::Order;
 
-// The place of the order under a number.
+// The place of the first order under a number.
 pub fn find(orders: &[Order], number: u16) -> Option<usize>
+    requires { InOrder (map entry_of orders.now) }
     ensures { result ≡ place_in number (map entry_of orders.now) }
 {
-    for (place, order) in orders.iter().enumerate() {
-        if order.number == number {
-            return Some(place);
-        }
-    }
-    None
+    let place = orders.partition_point(|order| order.number < number);
+    let order = orders.get(place)?;
+    (order.number == number).then_some(place)
 }
 
 // The place before the first order with a larger number.
 pub fn place_for(orders: &[Order], number: u16) -> usize
+    requires { InOrder (map entry_of orders.now) }
     ensures place { result ≡ entry_place number (map entry_of orders.now) }
     ensures bound { result ≤ length orders.now }
 {
-    for (place, order) in orders.iter().enumerate() {
-        if order.number > number {
-            return place;
-        }
-    }
-    orders.len()
+    orders.partition_point(|order| order.number <= number)
 }
 
 // Tells each order its asked window, begun no earlier than today.

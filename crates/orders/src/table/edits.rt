@@ -34,6 +34,7 @@ impl Table {
     }
 
     // Asks for another window for the order under a number, if it is held. What it is told stays.
+    #[tactic(auto, using(crate::proofs::Tables::found_within))]
     pub fn change(&mut self, number: u16, asked: Window)
         ensures held { held_in self.new ≡ rewindow number (span_of asked) (held_in self.old) }
         ensures told { told_in self.new ≡ told_in self.old }
@@ -44,6 +45,7 @@ impl Table {
     }
 
     // Removes the order under a number, if it is held.
+    #[tactic(auto, using(crate::proofs::Tables::found_within))]
     pub fn remove(&mut self, number: u16)
         ensures held { held_in self.new ≡ without number (held_in self.old) }
         ensures told { told_in self.new ≡ remove (told_in self.old) (place_of number (held_in self.old)) }

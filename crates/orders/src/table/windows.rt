@@ -43,6 +43,7 @@ impl Table {
     }
 
     // The window that the order under a number is told, if it is held.
+    #[tactic(auto, using(crate::proofs::Tables::found_within))]
     pub fn told(&self, number: u16) -> Option<(u16, u16)>
         ensures { result ≡ option_map (window_at (told_in self.now)) (place_in number (held_in self.now)) }
     {

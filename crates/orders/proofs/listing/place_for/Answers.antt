@@ -1,19 +1,13 @@
-use Rattle.std.proofs.Common.{arith}
-use Rattle.orders.proofs.Places.{passed_on, passed_here, passed_all}
+use Rattle.std.proofs.Common.{ℕ, leb, List, sym, ◌∙◌, rules}
+use Rattle.std.proofs.lemmas.List.Sorted.{IsPartitionPoint-from_clause}
+use Rattle.orders.specs.declared.order.Order.{Order}
+use Rattle.orders.proofs.Places.{unused, parted_upto, point_is, entry_map}
 use Rattle.orders.proofs.listing.place_for.Goals as goal
 
-pub returns-then-order-number : goal.returns-then-order-number
-returns-then-order-number c = record {
-  place = passed_here c.args.number c.args.orders.now c.loop-place.place c.loop-place-test.true c.loop-place.invariant c.if-order-number.true;
-  bound = omega arith;
-}
-
-pub loop-place-preserved : goal.loop-place-preserved
-loop-place-preserved c =
-    passed_on c.args.number c.args.orders.now c.loop-place.place c.loop-place-test.true c.loop-place.invariant c.if-order-number.false
-
-pub returns : goal.returns
-returns c = record {
-  place = omega (arith, passed_all c.args.number c.args.orders.now c.loop-place.place (omega arith) c.loop-place.invariant);
-  bound = omega arith;
-}
+pub returns-clause-place : goal.returns-clause-place
+returns-clause-place c =
+    let n : ℕ = c.args.number in
+    let os : List Order = c.args.orders.now in
+    let i : ℕ = c.partition_point.result in
+    let s = IsPartitionPoint-from_clause (λ (o : Order). leb o.number n) os i c.partition_point.ensures.partitioned (parted_upto n os c.requires) (λ a r f h. search rules) in
+    point_is (λ (o : Order). leb o.number n) os i unused c.partition_point.ensures.bound s ∙ sym (entry_map n os)

@@ -9,12 +9,6 @@ use Rattle.orders.proofs.Places.{unused}
 use Rattle.orders.proofs.Tables.{found_within}
 use Rattle.orders.proofs.table.Table.told.Goals as goal
 
-pub offset_bounds-self-place : goal.offset_bounds-self-place
-offset_bounds-self-place c = omega (arith, found_within c.args.self.now c.args.number c.in_ok-place.place c.in_ok-place.ensures)
-
-pub bounds-self-place : goal.bounds-self-place
-bounds-self-place c = omega (arith, found_within c.args.self.now c.args.number c.in_ok-place.place c.in_ok-place.ensures)
-
 pub returns : goal.returns
 returns c =
     let t = c.args.self.now in
