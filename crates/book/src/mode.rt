@@ -11,7 +11,7 @@ pub trait Mode {
 
 // A book, on which the day turns.
 #[derive(Clone, Copy)]
-pub struct Live {}
+pub struct Live;
 
 // A trial, with the state that began it.
 #[derive(Clone, Copy)]

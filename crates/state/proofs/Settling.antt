@@ -30,10 +30,6 @@ module _ (c : Calendar) (L : Ledger) (k : Call) (marks : List ℕ) where
       → reply c L k marks ≡ settled k (subject L k) L.today marks (told c L k) (weigh c M marks)
   reply_weighed M e w = ap (past_checks c L k marks) e ∙ ap (past_weighing c L k marks) w
 
--- A refused call leaves the ledger.
-pub ledger_refused : (c : Calendar) (L : Ledger) (k : Call) (n : ℕ) → first_fault (checks L k) ≡ Some n → L ≡ ledger_after c L k
-ledger_refused c L k n e = ap (λ r. cond (refuses r) L (made c L k)) (sym (reply_faulty c L k [] n e))
-
 refused_cond : (b : Bool) (n a : ℕ) (s : List ℕ) (w m : ℕ) → refuses (cond b (lacks n a s w m) (refused n a)) ≡ true
 refused_cond true n a s w m = refl
 refused_cond false n a s w m = refl

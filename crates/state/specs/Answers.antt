@@ -3,7 +3,7 @@ use Rattle.std.specs.Prelude.{◌≡◌, ℕ, ◌≤◌, Bool, List, [], length,
 use Rattle.records.specs.declared.fault.NarrowingFault.{NarrowingFault}
 use Rattle.records.specs.declared.fault.NarrowingFault.TheVariants.{BadRange, BadPair, TooManyRecords, BadWindow, Overfull, Short}
 use Rattle.ledger.specs.Ledger.{Calendar, Ledger, horizon}
-use Rattle.ledger.specs.Calls.{Edit, Call, Call.edit}
+use Rattle.ledger.specs.Calls.{Edit, Call, Call.edit, checks, first_fault}
 use Rattle.ledger.specs.Replies.{Reply, Reply.done, Reply.days, Reply.says, Reply.planned, Reply.out, Reply.refused, Reply.lacks, reply, Allowed, marks_after, list_after, ledger_after}
 use Rattle.faults.specs.Faults.{check_number, number_of}
 use Rattle.faults.specs.declared.Check.{Check}
@@ -15,6 +15,10 @@ use Rattle.faults.specs.declared.BookFault.{BookFault}
 abbrev pub failed : Result (Unit {0}) Check → Option ℕ
 failed (Ok _) = None
 failed (Err check) = Some (check_number check)
+
+-- The outcome of the checks of a call: the first that comes.
+abbrev pub Checked : Ledger → Call → Result (Unit {0}) Check → Type 0
+Checked L k r = failed r ≡ first_fault (checks L k)
 
 -- A refusal by its number and what it is about.
 abbrev pub plainly : BookFault → Reply

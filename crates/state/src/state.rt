@@ -6,6 +6,7 @@ use crate::HORIZON;
 use orders::Table;
 
 // What a book holds, without its calendar: today, which days are lit, by the day mod 56, and the orders.
+// It has no model: the ledger that it is has a function in it, which days are lit, and the value of a model may not.
 #[derive(Clone, Copy)]
 pub struct State {
     today: u16,

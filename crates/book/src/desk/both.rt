@@ -1,4 +1,4 @@
-// The calls that a book and a trial share.
+// The calls that a book and a trial share. Each only passes the calendar on: a state has none, so that a trial can copy it.
 ghost use Rattle.std.specs.Prelude.{◌≡◌, [], length};
 ghost use Rattle.ledger.specs.Calls.{Edit, Call};
 ghost use Rattle.ledger.specs.Replies.{reply};

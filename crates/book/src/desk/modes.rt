@@ -20,7 +20,7 @@ impl<C: Calendar> Desk<C, Live> {
         Desk {
             calendar,
             state: State::fresh(),
-            mode: Live {},
+            mode: Live,
         }
     }
 
@@ -54,7 +54,7 @@ impl<C: Calendar> Desk<C, Trying> {
         Desk {
             calendar: self.calendar,
             state: self.state,
-            mode: Live {},
+            mode: Live,
         }
     }
 
@@ -65,7 +65,7 @@ impl<C: Calendar> Desk<C, Trying> {
         Desk {
             calendar: self.calendar,
             state: self.mode.begun,
-            mode: Live {},
+            mode: Live,
         }
     }
 }

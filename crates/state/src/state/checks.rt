@@ -1,8 +1,8 @@
 // The checks of each call, in their order.
 ghost use Rattle.std.specs.Prelude.{◌≡◌, cond, Ok, Err};
 ghost use Rattle.ledger.specs.Orders.{holds as holds_number};
-ghost use Rattle.ledger.specs.Calls.{Edit, Call, bad_window, bad_day, checks, first_fault};
-ghost use Rattle.state.specs.Answers.{failed};
+ghost use Rattle.ledger.specs.Calls.{Edit, Call, bad_window, bad_day};
+ghost use Rattle.state.specs.Answers.{Checked};
 ghost use Rattle.state.specs.Model.{ledger_of};
 
 use super::State;
@@ -44,13 +44,11 @@ impl State {
     fn is_bad(&self, asked: Window) -> bool
         ensures { result ≡ bad_window (ledger_of self.now) asked.first asked.last }
     {
-        asked.last < asked.first
-            || asked.first < self.today
-            || usize::from(asked.last - self.today) >= HORIZON
+        asked.last < asked.first || asked.first < self.today || self.is_outside(asked.last)
     }
 
     pub(crate) fn check_admit(&self, number: u16, asked: Window, marks: usize) -> Result<(), Check>
-        ensures { failed result ≡ first_fault (checks (ledger_of self.now) (Call.edit (Edit.admit number asked.first asked.last) marks)) }
+        ensures { Checked (ledger_of self.now) (Call.edit (Edit.admit number asked.first asked.last) marks) result }
     {
         refuse_if(number == 0, Check::NumberZero)?;
         refuse_if(self.holds(number), Check::NumberHeld)?;
@@ -60,7 +58,7 @@ impl State {
     }
 
     pub(crate) fn check_change(&self, number: u16, asked: Window, marks: usize) -> Result<(), Check>
-        ensures { failed result ≡ first_fault (checks (ledger_of self.now) (Call.edit (Edit.change number asked.first asked.last) marks)) }
+        ensures { Checked (ledger_of self.now) (Call.edit (Edit.change number asked.first asked.last) marks) result }
     {
         refuse_if(!self.holds(number), Check::NumberUnknown)?;
         refuse_if(self.is_bad(asked), Check::BadWindow)?;
@@ -68,14 +66,14 @@ impl State {
     }
 
     pub(crate) fn check_withdraw(&self, number: u16, marks: usize) -> Result<(), Check>
-        ensures { failed result ≡ first_fault (checks (ledger_of self.now) (Call.edit (Edit.withdraw number) marks)) }
+        ensures { Checked (ledger_of self.now) (Call.edit (Edit.withdraw number) marks) result }
     {
         refuse_if(!self.holds(number), Check::NumberUnknown)?;
         refuse_if(marks < HORIZON, Check::TooShort)
     }
 
     pub(crate) fn check_light(&self, day: u16, marks: usize) -> Result<(), Check>
-        ensures { failed result ≡ first_fault (checks (ledger_of self.now) (Call.edit (Edit.light day) marks)) }
+        ensures { Checked (ledger_of self.now) (Call.edit (Edit.light day) marks) result }
     {
         refuse_if(self.is_outside(day), Check::DayOutside)?;
         refuse_if(self.is_lit(day), Check::LitAlready)?;
@@ -83,33 +81,33 @@ impl State {
     }
 
     pub(crate) fn check_douse(&self, day: u16) -> Result<(), Check>
-        ensures { failed result ≡ first_fault (checks (ledger_of self.now) (Call.douse day)) }
+        ensures { Checked (ledger_of self.now) (Call.douse day) result }
     {
         refuse_if(self.is_outside(day), Check::DayOutside)?;
         refuse_if(!self.is_lit(day), Check::LitAlready)
     }
 
     pub(crate) fn check_window(&self, number: u16) -> Result<(), Check>
-        ensures { failed result ≡ first_fault (checks (ledger_of self.now) (Call.window number)) }
+        ensures { Checked (ledger_of self.now) (Call.window number) result }
     {
         refuse_if(!self.holds(number), Check::NumberUnknown)
     }
 
     pub(crate) fn check_probe(&self, number: u16, day: u16) -> Result<(), Check>
-        ensures { failed result ≡ first_fault (checks (ledger_of self.now) (Call.probe number day)) }
+        ensures { Checked (ledger_of self.now) (Call.probe number day) result }
     {
         refuse_if(!self.holds(number), Check::NumberUnknown)?;
         refuse_if(self.is_outside(day), Check::DayOutside)
     }
 
     pub(crate) fn check_plan(&self, room: usize) -> Result<(), Check>
-        ensures { failed result ≡ first_fault (checks (ledger_of self.now) (Call.plan room)) }
+        ensures { Checked (ledger_of self.now) (Call.plan room) result }
     {
         refuse_if(room < self.table.len(), Check::TooShort)
     }
 
     pub(crate) fn check_turn(&self, room: usize) -> Result<(), Check>
-        ensures { failed result ≡ first_fault (checks (ledger_of self.now) (Call.turn room)) }
+        ensures { Checked (ledger_of self.now) (Call.turn room) result }
     {
         refuse_if(room < self.table.len(), Check::TooShort)?;
         refuse_if(self.today == LAST_TODAY, Check::LastDay)

@@ -1,4 +1,5 @@
-// The calls that change what is held or lit.
+// The calls that change what is held or lit: each changes a copy of the state and settles it. The change is one line; a closure
+// in its place would need a bound and a clause in each.
 ghost use Rattle.std.specs.Prelude.{◌≡◌, ◌+◌, ◌<◌, ◌≤◌, [], length};
 ghost use Rattle.ledger.specs.Calls.{Edit, Call, with_light as switched};
 ghost use Rattle.ledger.specs.Replies.{reply, ledger_after};

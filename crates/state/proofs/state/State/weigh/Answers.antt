@@ -1,16 +1,10 @@
 use Rattle.std.proofs.Common.{ℕ, List, length, ap, ◌∙◌}
 use Rattle.ledger.specs.Orders.{Order}
 use Rattle.ledger.specs.Ledger.{Calendar, Ledger}
-use Rattle.state.specs.Near.{near_all}
 use Rattle.state.specs.Model.{lit_by, ledger_of}
 use Rattle.state.proofs.Nearness.{weighable}
 use Rattle.state.proofs.Judging.{weigh_answer, weigh_marks, weigh_told}
 use Rattle.state.proofs.state.State.weigh.Goals as goal
-
-pub invariant_of-self : goal.invariant_of-self
-invariant_of-self g c =
-    let s = c.args.self.now in
-    record { early = s.early; slots = s.slots; near = ap (near_all s.today) c.narrow.ensures.held ∙ s.near }
 
 pub returns : goal.returns
 returns g c =
