@@ -10,7 +10,7 @@ use Rattle.plans.proofs.First.{first_leads}
 use Rattle.records.specs.Checks.{checked}
 use Rattle.records.proofs.Checked.{passed}
 use Rattle.narrowing.proofs.Meaning.{assigned_long}
-use Rattle.planning.specs.Planned.{Planned as Answer, padded, planned_of}
+use Rattle.planning.specs.Planned.{Planned as Answer, as_days, planned_of}
 use Rattle.ledger.specs.Ledger.{Calendar, Ledger, begun_at, pairs, windows, weigh, Fits, plan_of, days_in}
 use Rattle.ledger.proofs.Days.{pairs_long}
 use Rattle.state.specs.Weights.{quiet}
@@ -45,12 +45,9 @@ module _ (c : Calendar) (L : Ledger) (about : ℕ) (pass : checked L.today (pair
   planned = leads first refl
 
   -- and it is what is answered.
-  pub days_planned : (ps : List Pair) → ps ≡ pairs c L → (r : Answer) → r ≡ planned_of L.today ps (windows L) → r ≡ Ok (Some (padded (plan_of c L)))
+  pub days_planned : (ps : List Pair) → ps ≡ pairs c L → (r : Answer) → r ≡ planned_of L.today ps (windows L) → r ≡ Ok (Some (as_days (plan_of c L)))
   days_planned ps g r f =
-      f ∙ ap (λ x. planned_of L.today x (windows L)) g ∙ rw over (ap (λ o. Ok (option_map padded o)) planned.1 ∙ ap (λ o. Ok (Some (padded (days_in o)))) (sym planned.1))
+      f ∙ ap (λ x. planned_of L.today x (windows L)) g ∙ rw over (ap (λ o. Ok (option_map as_days o)) planned.1 ∙ ap (λ o. Ok (Some (as_days (days_in o)))) (sym planned.1))
 
   pub plan_fits : Fits c L (plan_of c L)
   plan_fits = subst (λ o. Fits c L (days_in o)) (sym planned.1) planned.2
-
-  pub front_planned : take (length L.held) (padded (plan_of c L)) ≡ plan_of c L
-  front_planned = take_at (plan_of c L) (replicate (512 - length (plan_of c L)) 0) (length L.held) (fits_long c L (plan_of c L) plan_fits)

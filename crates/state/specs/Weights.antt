@@ -1,9 +1,10 @@
 -- What a weighing makes of a call: the answer, and the ledger.
-use Rattle.std.specs.Prelude.{◌≡◌, ℕ, List, length, take, Some, None, Ok, Err, Option, Result}
+use Rattle.std.specs.Prelude.{◌≡◌, ℕ, List, Some, None, Ok, Err, Option, Result}
 use Rattle.plans.specs.Narrowing.{narrowed}
 use Rattle.plans.specs.Replies.{Reply as Weight, Reply.accepted, Reply.overfull, Reply.short}
 use Rattle.records.specs.declared.fault.NarrowingFault.TheVariants.{Overfull, Short}
 use Rattle.narrowing.specs.Verdict.{Marked}
+use Rattle.planning.specs.Planned.{Days}
 use Rattle.ledger.specs.Ledger.{Calendar, Ledger, pairs, windows, weigh, Fits, plan_of}
 use Rattle.ledger.specs.Replies.{Reply, Reply.refused}
 use Rattle.orders.specs.Tables.{held_in, told_in}
@@ -50,7 +51,7 @@ abbrev pub Told : Calendar → Ledger → Result State BookFault → Type 0
 Told c L (Ok s) = (held_in s.table ≡ L.held) × (told_in s.table ≡ narrowed L.today (pairs c L) (windows L))
 Told c L (Err fault) = Unit {0}
 
--- A list that begins with the days of the first plan, which fits.
-abbrev pub Planned : Calendar → Ledger → Result (List ℕ) BookFault → Type 0
-Planned c L (Ok days) = (take (length L.held) days ≡ plan_of c L) × Fits c L (plan_of c L)
+-- The days of the first plan, which fits.
+abbrev pub Planned : Calendar → Ledger → Result Days BookFault → Type 0
+Planned c L (Ok days) = (days.items ≡ plan_of c L) × Fits c L (plan_of c L)
 Planned c L (Err fault) = Unit {0}

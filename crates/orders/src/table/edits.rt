@@ -1,5 +1,5 @@
 // Orders entered, changed, removed and let out.
-ghost use Rattle.std.specs.Prelude.{◌≡◌, length, is_some, if◌then◌else◌, Some, None};
+ghost use Rattle.std.specs.Prelude.{◌≡◌, length, is_some, ◌&&◌, if◌then◌else◌, Some, None};
 ghost use Rattle.std.specs.List.{insert, remove};
 ghost use Rattle.records.specs.Bare.{span_of};
 ghost use Rattle.ledger.specs.Orders.{place as place_of, enter as entered, rewindow, without, staying};
@@ -40,7 +40,8 @@ impl Table {
         ensures told { told_in self.new ≡ told_in self.old }
     {
         if let Some(place) = self.find(number) {
-            self.orders[place].asked = asked;
+            let order = &mut self.orders[place];
+            order.asked = asked;
         }
     }
 
@@ -58,20 +59,20 @@ impl Table {
     }
 
     // Lets out the orders whose day is today: their numbers go to the front of a list, and the others stay in the table.
-    // Tells how many went; nothing, where the list is shorter than the orders held, and then nothing changes.
+    // Tells how many went; nothing, where there are fewer days than orders held or the list is shorter, and then nothing changes.
     pub fn let_out(
         &mut self,
         today: u16,
-        days: &[u16; MOST_RECORDS],
+        days: &[u16],
         list: &mut [u16],
     ) -> Option<usize>
-        ensures answer { result ≡ (if room_for self.old list.old then Some (length (due today self.old days.now)) else None) }
+        ensures answer { result ≡ (if room_for self.old days.now && room_for self.old list.old then Some (length (due today self.old days.now)) else None) }
         ensures list { list.new ≡ (if is_some result then onto (due today self.old days.now) list.old else list.old) }
         ensures held { held_in self.new ≡ (if is_some result then staying today (held_in self.old) (days_of self.old days.now) else held_in self.old) }
         ensures told { told_in self.new ≡ (if is_some result then off today (told_in self.old) (days_of self.old days.now) else told_in self.old) }
     {
         let count = self.len;
-        if list.len() < count {
+        if days.len() < count || list.len() < count {
             return None;
         }
         let days = &days[..count];

@@ -11,6 +11,7 @@ ghost use Rattle.orders.specs.Tables.{held_in, told_in, begun, told_after};
 use super::Table;
 use crate::listing;
 use narrowing::SupportFault;
+use planning::Days;
 use records::limits::MOST_RECORDS;
 use records::{NarrowingFault, Record, Window};
 
@@ -75,13 +76,12 @@ impl Table {
         narrowing::supports(today, pairs, begun.as_slice(), place, day, &mut work)
     }
 
-    // The first plan from today on: a day for each order, at the front of the list, and zeros after them; none where there
-    // is no plan.
+    // The first plan from today on: a day for each order; none where there is no plan.
     pub fn plan(
         &self,
         today: u16,
         pairs: &[(u16, u16)],
-    ) -> Result<Option<[u16; MOST_RECORDS]>, NarrowingFault>
+    ) -> Result<Option<Days>, NarrowingFault>
         ensures { result ≡ planned_of today pairs.now (begun today self.now) }
     {
         let begun = self.begun_at(today);

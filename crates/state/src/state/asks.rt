@@ -11,7 +11,7 @@ use super::State;
 use crate::HORIZON;
 use calendar::Calendar;
 use faults::BookFault;
-use records::limits::MOST_RECORDS;
+use planning::Days;
 
 impl State {
     // The same state, its orders told their days; refused where there is no plan.
@@ -48,12 +48,12 @@ impl State {
         Ok(self.table.supports(self.today, &pairs, place, day).unwrap())
     }
 
-    // The days of the first plan, at the front of a list.
+    // The days of the first plan.
     pub(crate) fn planned<C: Calendar>(
         &self,
         calendar: &C,
         subject: u16,
-    ) -> Result<[u16; MOST_RECORDS], BookFault>
+    ) -> Result<Days, BookFault>
         ensures refusal { refusal_in result ≡ quiet subject (weigh_ledger (C.told calendar.now) (ledger_of self.now) []) }
         ensures planned { Planned (C.told calendar.now) (ledger_of self.now) result }
     {
@@ -70,8 +70,7 @@ impl State {
         self.check_plan(list.len())
             .map_err(|check| BookFault::about(self.today, check))?;
         let days = self.planned(calendar, self.today)?;
-        let held = self.table.len();
-        list[0..held].copy_from_slice(&days[0..held]);
-        Ok(held)
+        list[..days.len()].copy_from_slice(days.as_slice());
+        Ok(days.len())
     }
 }

@@ -23,25 +23,7 @@ returns-in_err-days g c =
     (lists_refused C L (plan (length ns)) c.in_err-days.field-0.0 ns (ask_refused C L (plan (length ns)) refl pass refl c.in_err-days.field-0.0 c.in_err-days.ensures.refusal)).0
 
 pub slice_bounds-copy_from_slice-end : goal.slice_bounds-copy_from_slice-end
-slice_bounds-copy_from_slice-end g c =
-    let L = ledger_of c.args.self.now in
-    let ns = c.args.list.now in
-    let pass : Passes L (plan (length ns)) = no_fault c.check_plan.result c.check_plan.ensures c.map_err.ensures.variant c.in_ok-map_err.was in
-    let h : c.len-held.result ≤ length ns = omega (arith, plan_room L (length ns) pass, c.len-held.ensures) in
-    search rules
-
-pub slice_bounds-copy_from_slice-end-2 : goal.slice_bounds-copy_from_slice-end-2
-slice_bounds-copy_from_slice-end-2 g c = let h : c.len-held.result ≤ 512 = omega (arith, few c.args.self.now, c.len-held.ensures) in search rules
+slice_bounds-copy_from_slice-end g c = ?
 
 pub returns : goal.returns
-returns g c =
-    let C = g.C.Calendar.told c.args.calendar.now in
-    let L = ledger_of c.args.self.now in
-    let ns = c.args.list.now in
-    let n = c.len-held.result in
-    let pass : Passes L (plan (length ns)) = no_fault c.check_plan.result c.check_plan.ensures c.map_err.ensures.variant c.in_ok-map_err.was in
-    let D = c.in_ok-days.ensures in
-    let z : n - 0 ≡ n = omega arith in
-    let t : take n c.in_ok-days.days ≡ plan_of C L = ap (λ m. take m c.in_ok-days.days) c.len-held.ensures ∙ D.planned.0 in
-    plan_lists C L ns _ n (c.len-held.ensures ∙ sym (fits_long C L (plan_of C L) D.planned.1)) (ask_told C L (plan (length ns)) refl pass refl D.refusal)
-    (ap₂ (λ (xs : List ℕ) (k : ℕ). xs ++ drop k ns) (c.copy_from_slice.ensures.after ∙ ap (λ m. take m c.in_ok-days.days) z ∙ t) z)
+returns g c = ?

@@ -1,11 +1,11 @@
 use Rattle.std.proofs.Common.{◌≡◌, length, take, Some, is_some, ap, ◌∙◌, arith}
 use Rattle.std.specs.Result.{is_ok}
 use Rattle.std.proofs.lemmas.Result.{err_from_is_err_and}
-use Rattle.planning.specs.Planned.{padded}
+use Rattle.planning.specs.Planned.{as_days}
 use Rattle.ledger.specs.Ledger.{plan_of}
 use Rattle.state.specs.Model.{ledger_of}
 use Rattle.state.proofs.Nearness.{weighable}
-use Rattle.state.proofs.Planning.{days_planned, plan_fits, front_planned}
+use Rattle.state.proofs.Planning.{days_planned, plan_fits}
 use Rattle.state.proofs.state.State.planned.Goals as goal
 
 pub returns-in_err-weighed-clause-refusal : goal.returns-in_err-weighed-clause-refusal
@@ -26,7 +26,7 @@ unwrap-requires g c =
     let C = g.C.Calendar.told c.args.calendar.now in
     let pass = weighable C s 56 (g.C.Calendar.sound c.args.calendar.now) (omega arith) in
     let d = days_planned C (ledger_of s) c.args.subject pass c.in_ok-weighed.ensures.refusal c.pairs-pairs.result c.pairs-pairs.ensures c.plan.result c.plan.ensures in
-    let o : c.unwrap-plan.result ≡ Some (padded (plan_of C (ledger_of s))) = cc (d, c.unwrap-plan.ensures) in
+    let o : c.unwrap-plan.result ≡ Some (as_days (plan_of C (ledger_of s))) = cc (d, c.unwrap-plan.ensures) in
     ap is_some o
 
 pub returns-clause-planned : goal.returns-clause-planned
@@ -37,5 +37,5 @@ returns-clause-planned g c =
     let pass = weighable C s 56 (g.C.Calendar.sound c.args.calendar.now) (omega arith) in
     let q = c.in_ok-weighed.ensures.refusal in
     let d = days_planned C L c.args.subject pass q c.pairs-pairs.result c.pairs-pairs.ensures c.plan.result c.plan.ensures in
-    let t : c.unwrap.result ≡ padded (plan_of C L) = cc (d, c.unwrap-plan.ensures, c.unwrap.ensures) in
-    (ap (take (length L.held)) t ∙ front_planned C L c.args.subject pass q, plan_fits C L c.args.subject pass q)
+    let t : c.unwrap.result ≡ as_days (plan_of C L) = cc (d, c.unwrap-plan.ensures, c.unwrap.ensures) in
+    (ap (λ d. d.items) t, plan_fits C L c.args.subject pass q)
