@@ -3,7 +3,8 @@ use Rattle.std.proofs.Common.{◌≡◌, ℕ, zero, suc, ◌+◌, ◌-◌, ◌<�
 use Rattle.std.proofs.lemmas.List.{length-map}
 use Rattle.std.proofs.lemmas.Bool.{and_parts, and_from, cases_eq, le-leb, leb-true, lt-ltb, ltb-true, eq-eqb, ne_eqb}
 use Rattle.pairs.specs.Pairs.{Sound, sound}
-use Rattle.pairs.specs.Places.{failing}
+use Rattle.std.specs.List.{position, position_from}
+use Rattle.std.proofs.lemmas.Iterator.Adapters.{position_from-zero}
 use Rattle.plans.specs.Plans.{Window, Pair, from, Assignment}
 use Rattle.records.specs.Checks.{stands, checked}
 use Rattle.ledger.specs.Orders.{Order, enter, rewindow, without, staying}
@@ -84,7 +85,7 @@ near_staying k (o ∷ os) (t ∷ ts) A h =
         record { ordered = N.ordered; not_past = omega (arith, A.0, A.1); ends = omega (arith, N.ends) }
 
 -- The checks of the engine.
-windows_stand : (k i : ℕ) (os : List Order) → near_all k os ≡ true → failing (stands k 56) i (map (begun_at k) os) ≡ None
+windows_stand : (k i : ℕ) (os : List Order) → near_all k os ≡ true → position_from (λ w. not (stands k 56 w)) i (map (begun_at k) os) ≡ None
 windows_stand k i [] h = refl
 windows_stand k i (o ∷ os) h =
     let a = and_parts (near k o) (near_all k os) h in
@@ -98,7 +99,7 @@ lit_sound : (b : Bool) (p : Pair) → Sound p → Sound (cond b p.0 0, p.1)
 lit_sound true p s = s
 lit_sound false p s = (omega arith, s.1)
 
-pairs_sound : (f : ℕ → Pair) (i t n : ℕ) → ((u : ℕ) → t ≤ u → u < t + n → Sound (f u)) → failing sound i (map f (from t n)) ≡ None
+pairs_sound : (f : ℕ → Pair) (i t n : ℕ) → ((u : ℕ) → t ≤ u → u < t + n → Sound (f u)) → position_from (λ p. not (sound p)) i (map f (from t n)) ≡ None
 pairs_sound f i t zero h = refl
 pairs_sound f i t (suc n) h =
     let s = h t (omega arith) (omega arith) in
@@ -108,8 +109,10 @@ passes : (c : Calendar) (L : Ledger) (n : ℕ) → ((t : ℕ) → t < 65536 → 
     → length L.held ≤ 512 → 56 ≤ n → checked L.today (pairs c L) (windows L) n ≡ Ok tt
 passes c L n s early h few long =
     let k = L.today in
-    let ps : failing sound 0 (pairs c L) ≡ None = pairs_sound (pair_on c L) 0 k 56 (λ u a b. lit_sound (L.lit u) (c u) (s u (omega arith))) in
-    let ws : failing (stands k 56) 0 (windows L) ≡ None = windows_stand k 0 L.held h in
+    let ps : position (λ p. not (sound p)) (pairs c L) ≡ None =
+    position_from-zero (λ p. not (sound p)) (pairs c L) ∙ pairs_sound (pair_on c L) 0 k 56 (λ u a b. lit_sound (L.lit u) (c u) (s u (omega arith))) in
+    let ws : position (λ w. not (stands k 56 w)) (windows L) ≡ None =
+    position_from-zero (λ w. not (stands k 56 w)) (windows L) ∙ windows_stand k 0 L.held h in
     let l : length (windows L) ≤ 512 = omega (arith, length-map L.held (begun_at k)) in
     let d : k + 56 - 1 ≤ 65535 = omega arith in
     rw (pairs_long c L, le-leb 56 n long, le-leb (k + 56 - 1) 65535 d, ps, le-leb (length (windows L)) 512 l, ws)

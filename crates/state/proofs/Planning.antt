@@ -1,6 +1,6 @@
 -- The first plan of a ledger that has one.
-use Rattle.std.proofs.Common.{◌≡◌, ℕ, ◌-◌, List, [], length, take, replicate, Some, None, Ok, Option, sym, refl, ap, ◌∙◌, subst}
-use Rattle.std.proofs.lemmas.List.{length-map, take_at}
+use Rattle.std.proofs.Common.{◌≡◌, ℕ, ◌-◌, List, [], length, take, replicate, Some, None, Ok, Option, sym, refl, ap, ◌∙◌, subst, arith}
+use Rattle.std.proofs.lemmas.List.{length-map, take_all}
 use Rattle.std.specs.Option.{option_map}
 use Rattle.plans.specs.Plans.{Pair}
 use Rattle.plans.specs.Narrowing.{first_plan}
@@ -23,6 +23,14 @@ quiet_accepted about (short w m) e = cc
 -- A plan has a day for each order.
 pub fits_long : (c : Calendar) (L : Ledger) (ts : List ℕ) → Fits c L ts → length ts ≡ length L.held
 fits_long c L ts F = assigned_long (windows L) ts F.assigned ∙ length-map L.held (begun_at L.today)
+
+-- The days of the first plan are as many as the orders held.
+module _ (c : Calendar) (L : Ledger) (ts : List ℕ) (e : ts ≡ plan_of c L) (F : Fits c L (plan_of c L)) where
+  pub days_long : length ts ≡ length L.held
+  days_long = ap length e ∙ fits_long c L (plan_of c L) F
+
+  pub days_all : take (length L.held) ts ≡ plan_of c L
+  days_all = take_all (length L.held) ts (omega (arith, days_long)) ∙ e
 
 module _ (c : Calendar) (L : Ledger) (about : ℕ) (pass : checked L.today (pairs c L) (windows L) 56 ≡ Ok tt) (e : None ≡ quiet about (weigh c L [])) where
   abbrev first : Option (List ℕ)

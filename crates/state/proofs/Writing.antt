@@ -1,7 +1,7 @@
 -- From the checks, the weighing and the first plan to the answers of plan and turn.
-use Rattle.std.proofs.Common.{◌≡◌, ℕ, suc, ◌+◌, ◌%◌, ◌≤◌, Bool, true, false, cond, leb, List, [], ◌++◌, length, take, drop, set, is_some, Some, None, Ok, Err, Option, sym, refl, ap, ◌∙◌, ap₂, add-one, arith, length-append}
+use Rattle.std.proofs.Common.{◌≡◌, ℕ, suc, ◌+◌, ◌%◌, ◌≤◌, Bool, true, false, cond, ◌&&◌, leb, List, [], ◌++◌, length, take, drop, set, is_some, Some, None, Ok, Err, Option, sym, refl, ap, ◌∙◌, ap₂, add-one, arith, length-append}
 use Rattle.std.proofs.lemmas.List.{take_at}
-use Rattle.std.proofs.lemmas.Bool.{le-leb}
+use Rattle.std.proofs.lemmas.Bool.{le-leb, and_from}
 use Rattle.ledger.specs.Orders.{Order, leaving, staying}
 use Rattle.ledger.specs.Ledger.{Calendar, Ledger, weigh, Fits, plan_of}
 use Rattle.ledger.specs.Calls.{Call, Call.plan, Call.turn, switch, turned, made}
@@ -60,9 +60,10 @@ module _ (c : Calendar) (L : Ledger) (ns : List ℕ) (pass : Passes L (turn (len
   turn_ledger M m = m ∙ ap (λ r. cond (refuses r) L (turned (plan_of c L) L)) told_out
 
 -- What was let out.
-module _ (os : List Order) (ns : List ℕ) (h : length os ≤ length ns) (n : ℕ) {o : Option ℕ} (e : o ≡ cond (leb (length os) (length ns)) (Some n) None) where
+module _ (os : List Order) (us ns : List ℕ) (g : length os ≤ length us) (h : length os ≤ length ns) (n : ℕ) {o : Option ℕ}
+    (e : o ≡ cond (leb (length os) (length us) && leb (length os) (length ns)) (Some n) None) where
   pub let_some : o ≡ Some n
-  let_some = e ∙ ap (λ b. cond b (Some n) None) (le-leb (length os) (length ns) h)
+  let_some = e ∙ ap (λ b. cond b (Some n) None) (and_from _ _ (le-leb (length os) (length us) g) (le-leb (length os) (length ns) h))
 
   pub let_those : {A : Type 0} {x z : A} (y : A) → z ≡ cond (is_some o) x y → z ≡ x
   let_those {x = x} y f = f ∙ ap (λ p. cond (is_some p) x y) let_some
