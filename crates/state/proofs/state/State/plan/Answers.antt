@@ -1,14 +1,13 @@
-use Rattle.std.proofs.Common.{◌≡◌, ℕ, ◌-◌, ◌≤◌, List, ◌++◌, length, take, drop, sym, refl, ap, ◌∙◌, ap₂, arith, rules}
+use Rattle.std.proofs.Common.{ℕ, ◌≤◌, List, ◌++◌, length, drop, sym, refl, ap, ◌∙◌, ap₂, arith, rules}
+use Rattle.std.proofs.lemmas.List.{length-take-le}
 use Rattle.std.proofs.lemmas.Result.{err_from_is_err_and}
-use Rattle.ledger.specs.Ledger.{plan_of}
 use Rattle.ledger.specs.Calls.{Call.plan}
 use Rattle.ledger.specs.Law.{Passes}
 use Rattle.state.specs.Model.{ledger_of}
-use Rattle.state.proofs.Nearness.{few}
 use Rattle.state.proofs.Passing.{plan_room}
 use Rattle.state.proofs.Refusing.{no_fault}
 use Rattle.state.proofs.Asking.{ask_refused, ask_told}
-use Rattle.state.proofs.Planning.{fits_long}
+use Rattle.state.proofs.Planning.{days_long}
 use Rattle.state.proofs.Writing.{lists_refused, plan_lists}
 use Rattle.state.proofs.state.State.plan.Goals as goal
 
@@ -23,7 +22,41 @@ returns-in_err-days g c =
     (lists_refused C L (plan (length ns)) c.in_err-days.field-0.0 ns (ask_refused C L (plan (length ns)) refl pass refl c.in_err-days.field-0.0 c.in_err-days.ensures.refusal)).0
 
 pub slice_bounds-copy_from_slice-end : goal.slice_bounds-copy_from_slice-end
-slice_bounds-copy_from_slice-end g c = ?
+slice_bounds-copy_from_slice-end g c =
+    let C = g.C.Calendar.told c.args.calendar.now in
+    let L = ledger_of c.args.self.now in
+    let ns = c.args.list.now in
+    let pass : Passes L (plan (length ns)) = no_fault c.check_plan.result c.check_plan.ensures c.map_err.ensures.variant c.in_ok-map_err.was in
+    let P = c.in_ok-days.ensures.planned in
+    let h : c.len.result ≤ length ns = omega (arith, plan_room L (length ns) pass, c.len.ensures.value, days_long C L c.in_ok-days.days.items P.0 P.1) in
+    search rules
+
+pub slice_bounds-copy_from_slice-end-2 : goal.slice_bounds-copy_from_slice-end-2
+slice_bounds-copy_from_slice-end-2 g c =
+    let C = g.C.Calendar.told c.args.calendar.now in
+    let L = ledger_of c.args.self.now in
+    let ns = c.args.list.now in
+    let pass : Passes L (plan (length ns)) = no_fault c.check_plan.result c.check_plan.ensures c.map_err.ensures.variant c.in_ok-map_err.was in
+    let P = c.in_ok-days.ensures.planned in
+    let h : c.len.result ≤ length ns = omega (arith, plan_room L (length ns) pass, c.len.ensures.value, days_long C L c.in_ok-days.days.items P.0 P.1) in
+    sym (length-take-le c.len.result ns h)
+
+pub copy_from_slice-requires : goal.copy_from_slice-requires
+copy_from_slice-requires g c =
+    let C = g.C.Calendar.told c.args.calendar.now in
+    let L = ledger_of c.args.self.now in
+    let ns = c.args.list.now in
+    let pass : Passes L (plan (length ns)) = no_fault c.check_plan.result c.check_plan.ensures c.map_err.ensures.variant c.in_ok-map_err.was in
+    let P = c.in_ok-days.ensures.planned in
+    let h : c.len.result ≤ length ns = omega (arith, plan_room L (length ns) pass, c.len.ensures.value, days_long C L c.in_ok-days.days.items P.0 P.1) in
+    length-take-le c.len.result ns h ∙ c.len.ensures.value ∙ ap length (sym c.as_slice.ensures.value)
 
 pub returns : goal.returns
-returns g c = ?
+returns g c =
+    let C = g.C.Calendar.told c.args.calendar.now in
+    let L = ledger_of c.args.self.now in
+    let ns = c.args.list.now in
+    let pass : Passes L (plan (length ns)) = no_fault c.check_plan.result c.check_plan.ensures c.map_err.ensures.variant c.in_ok-map_err.was in
+    let D = c.in_ok-days.ensures in
+    plan_lists C L ns _ c.len-2.result (c.len-2.ensures.value ∙ ap length D.planned.0) (ask_told C L (plan (length ns)) refl pass refl D.refusal)
+    (ap₂ (λ (xs : List ℕ) (k : ℕ). xs ++ drop k ns) (c.copy_from_slice.ensures.after ∙ c.as_slice.ensures.value ∙ D.planned.0) (c.len.ensures.value ∙ sym c.len-2.ensures.value))

@@ -1,4 +1,4 @@
-use Rattle.std.proofs.Common.{◌≡◌, length, take, Some, is_some, ap, ◌∙◌, arith}
+use Rattle.std.proofs.Common.{◌≡◌, Some, is_some, ap, arith}
 use Rattle.std.specs.Result.{is_ok}
 use Rattle.std.proofs.lemmas.Result.{err_from_is_err_and}
 use Rattle.planning.specs.Planned.{as_days}
