@@ -3,6 +3,7 @@ use Rattle.std.proofs.Common.{◌≡◌, ℕ, Ok, Err, Option, None, Result, sym
 use Rattle.std.specs.Result.{MatchResult, IsErrAnd, is_ok}
 use Rattle.std.proofs.lemmas.Result.{err_from_is_err_and}
 use Rattle.plans.specs.Replies.{Reply as Weight, Reply.accepted, Reply.overfull, Reply.short}
+use Rattle.records.specs.declared.fault.NarrowingFault.{NarrowingFault}
 use Rattle.narrowing.specs.Verdict.{told}
 use Rattle.faults.specs.declared.Check.{Check}
 use Rattle.faults.specs.declared.Cause.{Cause}
@@ -21,11 +22,16 @@ module _ {E : Type 0} (cause : E → Cause) (about : ℕ) where
   blames (Ok u) h q = h
   blames (Err e) {m} h q = let p = err_from_is_err_and m h in p.1 ∙ ap Err (q e p.0 p.2)
 
--- The engine's faults are those of the weighing.
-pub heard : (about : ℕ) (W : Weight) → blamed Engine about (told W) ≡ answer_of about W
-heard about accepted = refl
-heard about (overfull run windows mosts) = refl
-heard about (short windows fewests) = refl
+-- After a weighing.
+pub heard : (about : ℕ) (W : Weight) (r : Result (Unit {0}) NarrowingFault) {m : Result (Unit {0}) BookFault} {Q : NarrowingFault → BookFault → Type 0} → r ≡ told W
+    → MatchResult r (λ x. m ≡ Ok x) (λ e. IsErrAnd m (Q e)) → ((e : NarrowingFault) (f : BookFault) → Q e f → f ≡ fault_about about (Engine e))
+    → m ≡ answer_of about W
+heard about W r e h q = blames Engine about r h q ∙ ap (blamed Engine about) e ∙ go W
+  where
+    go : (W : Weight) → blamed Engine about (told W) ≡ answer_of about W
+    go accepted = refl
+    go (overfull run windows mosts) = refl
+    go (short windows fewests) = refl
 
 -- The checks that were passed.
 pub no_fault : (r : Result (Unit {0}) Check) {m : Result (Unit {0}) BookFault} {o : Option ℕ} → failed r ≡ o → is_ok m ≡ is_ok r → m ≡ Ok tt → o ≡ None

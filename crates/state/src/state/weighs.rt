@@ -21,6 +21,7 @@ impl State {
         ensures value { result ≡ pair_on (C.told calendar.now) (ledger_of self.now) (self.now.today + at) }
         ensures sound { Sound result }
     {
+        // `as`: no `From` goes from a usize to a u16
         let day = self.today + at as u16;
         let (fewest, most) = calendar.pair(day);
         if self.is_lit(day) {

@@ -1,11 +1,10 @@
 use Rattle.std.proofs.Common.{sym, ap, ◌∙◌, rules}
 use Rattle.std.proofs.lemmas.Result.{err_from_is_err_and}
-use Rattle.faults.specs.declared.Cause.TheVariants.{Engine}
 use Rattle.ledger.specs.Ledger.{Ledger, weigh}
 use Rattle.state.specs.Answers.{horizon_marks}
 use Rattle.state.specs.Model.{ledger_of}
 use Rattle.state.specs.Weights.{refusal_in}
-use Rattle.state.proofs.Refusing.{blamed, blames, heard, was_ok}
+use Rattle.state.proofs.Refusing.{heard, was_ok}
 use Rattle.state.proofs.Asking.{answer_quiet, quiet_same}
 use Rattle.state.proofs.state.State.weighed.Goals as goal
 
@@ -15,8 +14,7 @@ returns-in_err-map_err-clause-refusal g c =
     let L = ledger_of c.args.self.now in
     let a = c.args.subject in
     let hm = horizon_marks c.weigh.new.marks in
-    let m = blames Engine a c.weigh.result c.map_err.ensures.cases (λ e f q. search rules) ∙ ap (blamed Engine a) c.weigh.ensures.answer
-    ∙ heard a (weigh C L hm) in
+    let m = heard a (weigh C L hm) c.weigh.result c.weigh.ensures.answer c.map_err.ensures.cases (λ e f q. search rules) in
     let p = err_from_is_err_and c.from_residual.result c.from_residual.ensures.1 in
     rw (p.1, p.2) (ap refusal_in (sym c.in_err-map_err.was) ∙ answer_quiet a (weigh C L hm) c.map_err.result m ∙ quiet_same C L a hm)
 
@@ -26,8 +24,7 @@ returns-clause-refusal g c =
     let L = ledger_of c.args.self.now in
     let a = c.args.subject in
     let hm = horizon_marks c.weigh.new.marks in
-    let m = blames Engine a c.weigh.result c.map_err.ensures.cases (λ e f q. search rules) ∙ ap (blamed Engine a) c.weigh.ensures.answer
-    ∙ heard a (weigh C L hm) in
+    let m = heard a (weigh C L hm) c.weigh.result c.weigh.ensures.answer c.map_err.ensures.cases (λ e f q. search rules) in
     ap refusal_in (sym c.in_ok-map_err.was) ∙ answer_quiet a (weigh C L hm) c.map_err.result m ∙ quiet_same C L a hm
 
 pub returns-clause-told : goal.returns-clause-told
