@@ -30,11 +30,14 @@ pub fn day_of(calendar: &Closing<Weekly>, number: u16) -> Day
 
 impl fmt::Display for Day {
     fn fmt<W: fmt::Write>(&self, f: &mut fmt::Formatter<W>) -> fmt::Result {
-        let number = self.number;
-        let weekday = self.weekday;
-        let fewest = self.fewest;
-        let most = self.most;
-        let closed = if self.closed { "yes" } else { "no" };
+        let Day {
+            number,
+            weekday,
+            fewest,
+            most,
+            closed,
+        } = *self;
+        let closed = if closed { "yes" } else { "no" };
         write!(
             f,
             "{number:>3} {weekday:>7} {fewest:>6} {most:>4} {closed:>6}"

@@ -1,3 +1,2 @@
-mod Fills
+mod Pairings
 mod Marks
-mod Openings

@@ -6,7 +6,7 @@ ghost use Rattle.sheet.specs.Header.{version_of, mark_line, week_from, week_line
 ghost use Rattle.sheet.specs.Told.{lines_read, asked_of};
 
 use crate::fault::{Refusal, SheetFault};
-use crate::pairing::pair_up;
+use crate::pairing::pairs_of;
 use calendar::{Closing, Weekly};
 use reading::decimal::number;
 use reading::{Count, Lines, line_numbers};
@@ -30,13 +30,18 @@ pub fn mark(line: &[u8]) -> Result<(), SheetFault>
     ensures only { result ≡ Ok tt → line.now ≡ codes "OVB 1" }
     ensures always { line.now ≡ codes "OVB 1" → result ≡ Ok tt }
 {
-    let Some(version) = version(line) else {
-        return Err(SheetFault::NoMark);
-    };
-    if version != 1 {
-        return Err(SheetFault::NoMark);
+    match version(line) {
+        Some(1) => Ok(()),
+        _ => Err(SheetFault::NoMark),
     }
-    Ok(())
+}
+
+// Line 2: the letter W, the weekday of day 0 and the seven pairs.
+pub fn week(line: &[u8]) -> Result<Weekly, SheetFault>
+    ensures { map_ok week_of result ≡ week_line line.now }
+{
+    let numbers = line_numbers(line, b'W', Count::Exactly(15))?;
+    week_of_numbers(&numbers)
 }
 
 // The week of fifteen numbers: the weekday of day 0 and the seven pairs.
@@ -45,31 +50,10 @@ fn week_of_numbers(numbers: &[u16]) -> Result<Weekly, SheetFault>
     ensures { map_ok week_of result ≡ week_from numbers.now }
 {
     let start = numbers[0];
-    let mut rows = [(0, 0); 7];
-    pair_up(&numbers[1..], &mut rows);
-    Weekly::check(&rows, start)?;
-    Ok(Weekly::new(rows, start))
-}
-
-// Line 2: the letter W, the weekday of day 0 and the seven pairs.
-pub fn week(line: &[u8]) -> Result<Weekly, SheetFault>
-    ensures { map_ok week_of result ≡ week_line line.now }
-{
-    let numbers = line_numbers(line, b'W', Count::Exactly(15))?;
-    week_of_numbers(numbers.as_slice())
-}
-
-// The closed runs of numbers two by two, as a layer on the week.
-fn closing_of_numbers(numbers: &[u16], week: Weekly) -> Result<Closing<Weekly>, SheetFault>
-    requires { length numbers.now ≤ 200 }
-    ensures runs { map_ok runs_of result ≡ runs_from numbers.now }
-    ensures week { IfOk result (λ c. below_of c ≡ week) }
-{
-    let mut pairs = [(0, 0); 100];
-    pair_up(numbers, &mut pairs);
-    let runs = &pairs[0..numbers.len() / 2];
-    Closing::<Weekly>::check(runs)?;
-    Ok(Closing::new(week, runs))
+    let pairs = pairs_of(&numbers[1..]);
+    let rows = pairs.first_chunk().unwrap();
+    Weekly::check(rows, start)?;
+    Ok(Weekly::new(*rows, start))
 }
 
 // Line 3: the letter X and the closed runs, as a layer on the week.
@@ -78,7 +62,9 @@ pub fn closing(line: &[u8], week: Weekly) -> Result<Closing<Weekly>, SheetFault>
     ensures week { IfOk result (λ c. below_of c ≡ week) }
 {
     let numbers = line_numbers(line, b'X', Count::Even)?;
-    closing_of_numbers(numbers.as_slice(), week)
+    let runs = pairs_of(&numbers);
+    Closing::<Weekly>::check(&runs)?;
+    Ok(Closing::new(week, &runs))
 }
 
 // Reads the next three lines as those that open a sheet.

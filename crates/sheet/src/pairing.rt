@@ -1,13 +1,19 @@
-ghost use Rattle.std.specs.Prelude.{◌≡◌, ◌*◌, ◌≤◌, ◌++◌, length, drop};
+ghost use Rattle.std.specs.Prelude.{◌≡◌, ◌≤◌, length};
 ghost use Rattle.sheet.specs.Header.{in_pairs};
 
-// Writes the numbers two by two at the front of a list; later entries stay.
-pub(crate) fn pair_up(numbers: &[u16], pairs: &mut [(u16, u16)])
-    requires { length numbers.now ≤ 2 * length pairs.old }
-    ensures { pairs.new ≡ in_pairs numbers.now ++ drop (length (in_pairs numbers.now)) pairs.old }
+use arrayvec::ArrayVec;
+
+// Half as many as a line has bytes, and so more pairs than it has.
+const PAIRS: usize = 100;
+
+// The numbers two by two; a last one alone is left out.
+pub(crate) fn pairs_of(numbers: &[u16]) -> ArrayVec<(u16, u16), PAIRS>
+    requires { length numbers.now ≤ 200 }
+    ensures { result.items ≡ in_pairs numbers.now }
 {
-    let count = numbers.len() / 2;
-    for i in 0..count {
-        pairs[i] = (numbers[2 * i], numbers[2 * i + 1]);
+    let mut pairs = ArrayVec::new();
+    for pair in numbers.chunks_exact(2) {
+        pairs.push((pair[0], pair[1]));
     }
+    pairs
 }

@@ -9,10 +9,16 @@ impl fmt::Display for Refusal {
     ghost output = { λ r. Some (refused_text r) };
 
     fn fmt<W: fmt::Write>(&self, f: &mut fmt::Formatter<W>) -> fmt::Result {
-        let line = self.line;
-        let column = self.column;
-        let layer = self.fault.layer();
-        let number = self.fault.number();
-        write!(f, "refused {line} {column} {layer} {number}")
+        let Refusal {
+            fault,
+            line,
+            column,
+        } = *self;
+        write!(
+            f,
+            "refused {line} {column} {} {}",
+            fault.layer(),
+            fault.number()
+        )
     }
 }

@@ -1,22 +1,20 @@
-use Rattle.std.proofs.Common.{get_or, Ok, sym, refl, ap, ◌∙◌}
-use Rattle.calendar.specs.Checks.{weekly_check, kept_week}
-use Rattle.calendar.specs.Told.{week_of}
-use Rattle.sheet.specs.declared.fault.SheetFault.TheVariants.{Calendar}
-use Rattle.reading.specs.Results.{map_err, and_then}
-use Rattle.sheet.proofs.Openings.{week_is, refuses}
+use Rattle.std.proofs.Common.{◌≡◌, length, take, Ok, ap, arith}
+use Rattle.std.proofs.lemmas.Grind.{common_steps}
+use Rattle.std.specs.List.{between}
+use Rattle.std.proofs.lemmas.Slice.{first_rest}
+use Rattle.std.proofs.lemmas.List.{take_all, length-take, length-drop}
+use Rattle.sheet.specs.Header.{in_pairs, week_from}
+use Rattle.sheet.proofs.Pairings.{length_in_pairs}
 use Rattle.sheet.proofs.opening.week_of_numbers.Goals as goal
-
-pub returns-in_err-check : goal.returns-in_err-check
-returns-in_err-check c =
-    let rows = c.pair_up.new.pairs in
-    let start = get_or c.args.numbers.now 0 0 in
-    let is = week_is c.args.numbers.now _ rows c.requires refl c.pair_up.ensures in
-    refuses week_of (start, rows) (weekly_check rows start) c.from_residual.result _ (sym c.check.ensures ∙ c.in_err-check.was) c.from_residual.ensures.1 ∙ sym is
 
 pub returns : goal.returns
 returns c =
-    let rows = c.pair_up.new.pairs in
-    let start = get_or c.args.numbers.now 0 0 in
-    let is = week_is c.args.numbers.now _ rows c.requires refl c.pair_up.ensures in
-    let ok = sym c.check.ensures ∙ c.in_ok-check.was in
-    ap Ok (c.new.ensures.week ∙ ap (λ v. kept_week v (start, rows)) ok) ∙ sym (is ∙ ap (λ v. and_then (map_err Calendar v) (λ _. Ok (start, rows))) ok)
+    let ns = c.args.numbers.now in
+    let rest = between 1 (length ns) ns in
+    let long : length rest ≡ 14 = simp (length-take, length-drop) (omega arith) in
+    let few = length_in_pairs rest in
+    let all : take 7 (in_pairs rest) ≡ in_pairs rest = take_all 7 (in_pairs rest) (omega arith) in
+    let is = ap week_from (first_rest ns 0 (omega arith)) in
+    let ok : c.check.result ≡ Ok tt = c.in_ok-check.was in
+    let rows : c.unwrap-rows.result.now ≡ in_pairs rest = grind (arith, common_steps) in
+    grind (arith, common_steps)

@@ -18,5 +18,5 @@ one_byte (Calendar f) = refl
 pub returns-clause-writes : goal.returns-clause-writes
 returns-clause-writes g c p ok =
     let fault = c.args.self.now.fault in
-    let letter : encode c.layer-layer.result ≡ layer_of fault ∷ [] = ap encode c.layer-layer.ensures ∙ one_byte fault in
-    rw (letter, c.number-number.ensures) at (c.write.ensures.writes p ok)
+    let letter : encode c.layer.result ≡ layer_of fault ∷ [] = ap encode c.layer.ensures ∙ one_byte fault in
+    rw (letter, c.number.ensures) at (c.write.ensures.writes p ok)
