@@ -43,21 +43,10 @@ right_more k d b c ls ws N N' e lt R high low here = record { end = end; by_day 
     end = high d lt (omega arith) ∙ R.end
 
     by_day : (v : ℕ) → b ≤ v → v < d → ls v + N' (suc v) ≤ N' v
-    by_day v h l =
-        elim (cases_eq v b) [
-          | inl i ↦ rw i (omega (arith, here, high (suc b) (omega arith) lt))
-          | inr n ↦ omega (arith, R.by_day v (omega arith) l, high v (omega arith) (omega arith), high (suc v) (omega arith) l)
-        ]
+    by_day v h l = grind (arith, R.by_day)
 
     by_run : (p q : ℕ) → p < q → b < q → q ≤ d → forced k ws p q + N' q ≤ N' p
-    by_run p q h m l =
-        elim (cases_eq q (suc b)) [
-          | inl i ↦ elim (cases_eq p b) [
-            | inl j ↦ rw (i, j) (omega (arith, here, high (suc b) (omega arith) lt))
-            | inr n ↦ rw i (omega (arith, low p (omega arith), high (suc b) (omega arith) lt))
-          ]
-          | inr n ↦ omega (arith, R.by_run p q h (omega arith) l, high q m l, up p (omega arith))
-        ]
+    by_run p q h m l = grind (arith, R.by_run)
 
     attained : (v : ℕ) → b ≤ v → v < d → (N' v ≡ ls v + N' (suc v)) ⊎ ((q : ℕ) × (v < q) × (q ≤ d) × (N' v ≡ forced k ws v q + N' q))
     attained v h l =

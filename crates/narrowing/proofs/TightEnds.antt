@@ -1,6 +1,6 @@
 -- Tight runs by the tests of a row, and their earliest begins and latest ends, one row more.
-use Rattle.std.proofs.Common.{◌≡◌, ℕ, suc, ◌+◌, ◌-◌, ◌<◌, ◌≤◌, Bool, true, false, cond, eqb, List, length, get_or, None, Some, Option, MatchOption, sym, ap, ◌∙◌, subst, inl, inr, arith}
-use Rattle.std.proofs.lemmas.Bool.{cases_lt, cases_Bool, both_ways, eqb-true, eq-eqb, or_cases, or_left, or_right}
+use Rattle.std.proofs.Common.{◌≡◌, ℕ, suc, ◌-◌, ◌<◌, ◌≤◌, Bool, true, false, cond, List, length, get_or, None, Some, Option, MatchOption, sym, ap, ◌∙◌, subst, inl, inr, arith}
+use Rattle.std.proofs.lemmas.Bool.{cases_lt, cases_Bool, both_ways}
 use Rattle.plans.specs.Plans.{Window, Pair, most}
 use Rattle.plans.specs.Runs.{sum}
 use Rattle.plans.specs.Needs.{forced}
@@ -20,22 +20,7 @@ module _ (k : ℕ) (pairs : List Pair) (ws : List Window) (M N : ℕ → ℕ) wh
       → top - get_or before p 0 ≡ sum (most pairs) p (suc b) → get_or left p 0 ≡ M p → N (suc b) ≤ length ws → rest ≡ length ws - N (suc b)
       → (tight? row before left top rest p ≡ true → Tight k pairs ws M N p (suc b))
       × (Tight k pairs ws M N p (suc b) → tight? row before left top rest p ≡ true)
-  tells_tight row before left top rest b p er eb el h e = (go, back)
-    where
-      go : tight? row before left top rest p ≡ true → Tight k pairs ws M N p (suc b)
-      go t =
-          elim (or_cases (eqb (get_or row p 0) (top - get_or before p 0)) (eqb (get_or left p 0 + get_or row p 0) rest) t) [
-            | inl x ↦ inl (sym er ∙ eqb-true (get_or row p 0) (top - get_or before p 0) x ∙ eb)
-            | inr x ↦ inr (omega (arith, eqb-true (get_or left p 0 + get_or row p 0) rest x))
-          ]
-
-      back : Tight k pairs ws M N p (suc b) → tight? row before left top rest p ≡ true
-      back (inl x) =
-          or_left (eqb (get_or row p 0) (top - get_or before p 0)) (eqb (get_or left p 0 + get_or row p 0) rest)
-          (eq-eqb (get_or row p 0) (top - get_or before p 0) (er ∙ x ∙ sym eb))
-      back (inr x) =
-          or_right (eqb (get_or row p 0) (top - get_or before p 0)) (eqb (get_or left p 0 + get_or row p 0) rest)
-          (eq-eqb (get_or left p 0 + get_or row p 0) rest (omega arith))
+  tells_tight row before left top rest b p er eb el h e = (λ t. grind arith, λ t. grind arith)
 
   -- the earliest begins of the tight runs that end at b or before
   pub record EarlyTo (b : ℕ) (m : ℕ → ℕ) : Type 0 where
@@ -45,31 +30,7 @@ module _ (k : ℕ) (pairs : List Pair) (ws : List Window) (M N : ℕ → ℕ) wh
   pub early_more : (b : ℕ) (m m' : ℕ → ℕ) → EarlyTo b m
       → ((q : ℕ) → q ≤ b → m' q ≡ m q) → ((p : ℕ) → p ≤ b → Tight k pairs ws M N p (suc b) → m' (suc b) ≤ p)
       → (m' (suc b) < suc b → Tight k pairs ws M N (m' (suc b)) (suc b)) → EarlyTo (suc b) m'
-  early_more b m m' E same low at = record { earliest = earliest; tight = tight }
-    where
-      earliest : (p q : ℕ) → p < q → q ≤ suc b → Tight k pairs ws M N p q → m' q ≤ p
-      earliest p q h l t =
-          elim (cases_lt q (suc b)) [
-            | inl i ↦ omega (arith, same q (omega arith), E.earliest p q h (omega arith) t)
-            | inr i ↦
-                let e : q ≡ suc b = omega arith in
-                let P : ℕ → Type 0 = Tight k pairs ws M N p in
-                let r : m' (suc b) ≤ p = low p (omega arith) (subst P e t) in
-                rw e r
-          ]
-
-      tight : (q : ℕ) → q ≤ suc b → m' q < q → Tight k pairs ws M N (m' q) q
-      tight q l lt =
-          elim (cases_lt q (suc b)) [
-            | inl i ↦
-                let e = same q (omega arith) in
-                let P : ℕ → Type 0 = λ p. Tight k pairs ws M N p q in
-                subst P (sym e) (E.tight q (omega arith) (omega arith))
-            | inr i ↦
-                let e : suc b ≡ q = omega arith in
-                let P : ℕ → Type 0 = λ q. m' q < q → Tight k pairs ws M N (m' q) q in
-                subst P e at lt
-          ]
+  early_more b m m' E same low at = record { earliest = λ p q h l t. grind (arith, E.earliest); tight = λ q l lt. grind (arith, E.tight) }
 
   -- the latest ends, of the tight runs that end at b or before
   pub record LateTo (b : ℕ) (m : ℕ → ℕ) : Type 0 where
