@@ -6,7 +6,7 @@ ghost use Rattle.plans.specs.Sets.{Marks, meeting, needed};
 ghost use Rattle.plans.specs.Needs.{Within};
 ghost use Rattle.narrowing.specs.Counting.{tabled, Counted, NeedsOf, Shown};
 
-use crate::counting::row;
+use crate::counting::{places, row};
 use records::Record;
 use records::limits::{CELLS, EDGES};
 
@@ -72,8 +72,8 @@ pub(crate) fn count_meeting<R: Record>(day: u16, records: &[R], marks: &[u8]) ->
     sum_marks(marks, &mut before);
     let mut met: u16 = 0;
     for each in records {
-        let (first, last) = each.window();
-        if before[(first - day) as usize] < before[(last - day) as usize + 1] {
+        let (a, b) = places(day, each.window());
+        if before[a] < before[b + 1] {
             met += 1;
         }
     }
