@@ -69,6 +69,7 @@ pub(crate) fn count_runs<R: Record>(day: u16, records: &[R], days: usize, table:
 {
     tally(day, records, table);
     let mut sums = [0u16; MOST_DAYS];
+    // By its number: the row of a last day and the sums both end at it.
     for last in 0..days {
         add_row(
             &mut table[last * MOST_DAYS..last * MOST_DAYS + last + 1],

@@ -42,6 +42,7 @@ pub(crate) fn overfull(
     requires summed { Summed pairs.now before.now }
     ensures { Found pairs.now table.now result }
 {
+    // By its number: a last day has a row, two sums and a place in the answer.
     for last in 0..pairs.len() {
         if let Some(first) = last_over(row(table, last), &before[..last + 1], before[last + 1]) {
             return Some((first, last));

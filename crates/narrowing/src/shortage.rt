@@ -35,6 +35,7 @@ pub(crate) fn mark_shortage(
 {
     marks.fill(0);
     let mut v = pairs.len();
+    // A loop with a measure: it goes back by a day or by a whole run, and no list has its steps.
     while v > 0 {
         let day = v - 1;
         if left[v] == left[day] + pairs[day].0 as u32 {
