@@ -8,9 +8,9 @@ use Rattle.plans.specs.Needs.{Within}
 use Rattle.plans.specs.Replies.{Reply, reply}
 use Rattle.plans.proofs.Room.{room_sum}
 use Rattle.records.specs.declared.fault.NarrowingFault.TheVariants.{Overfull, Short}
-use Rattle.records.specs.Checks.{Outcome, past, checked}
+use Rattle.records.specs.Checks.{Outcome}
 use Rattle.narrowing.specs.Counting.{Counted, Summed}
-use Rattle.narrowing.specs.Verdict.{told, verdict_of, Marked, MarkedPast, MarksAfter}
+use Rattle.narrowing.specs.Verdict.{told, Marked}
 use Rattle.narrowing.proofs.Overfull.{cell_held}
 use Rattle.narrowing.proofs.Replies.{reply_accepted, reply_overfull, reply_short}
 
@@ -64,12 +64,3 @@ pub front_ready : (k d : ℕ) (ws : List Window) (days rest : List ℕ) → Mark
 front_ready k d ws days rest S few W =
     let P : List ℕ → Type 0 = λ l. (length l ≤ 128) × Marks (length l) l × Within k (length l) ws in
     subst P (sym (take_at days rest d S.long)) (omega (arith, S.long), rw S.long S, rw S.long W)
-
--- past the checks, the answer and the marks are those of the reply
-pub answer_past : (k : ℕ) (pairs : List Pair) (ws : List Window) (n : ℕ) (marks : List ℕ) → checked k pairs ws n ≡ Ok tt
-    → told (reply k pairs ws marks) ≡ verdict_of k pairs ws n marks
-answer_past k pairs ws n marks e = ap (λ o. past o (told (reply k pairs ws marks))) (sym e)
-
-pub marks_past : (k : ℕ) (pairs : List Pair) (ws : List Window) (before after : List ℕ) → checked k pairs ws (length before) ≡ Ok tt
-    → Marked k pairs ws before after (reply k pairs ws (take (length pairs) after)) → MarksAfter k pairs ws before after
-marks_past k pairs ws before after e m = subst (MarkedPast k pairs ws before after) (sym e) m

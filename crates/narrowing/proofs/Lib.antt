@@ -16,7 +16,6 @@ pub mod Judged
 pub mod Backward
 pub mod TightEnds
 pub mod ScanSteps
-pub mod Accepted
 pub mod Placing
 pub mod Scanned
 pub mod Meaning

@@ -6,7 +6,7 @@ use Rattle.plans.specs.Plans.{Window}
 use Rattle.plans.specs.Needs.{Within}
 use Rattle.records.specs.Records.{taking}
 use Rattle.narrowing.specs.Narrow.{placed}
-use Rattle.narrowing.specs.Scanning.{found, Shorter}
+use Rattle.narrowing.specs.Scanning.{found, AtHand, Shorter}
 use Rattle.records.proofs.Windows.{told_at}
 use Rattle.narrowing.proofs.Windows.{told_within}
 
@@ -38,14 +38,7 @@ moved_all put span k table xs ys i h e =
 pub taken : {X : Type 0} (put : X → Window → X) (x : X) (w : Window) → w.0 ≤ w.1 → taking put x w ≡ put x w
 taken put x w h = rw (le-leb w.0 w.1 h)
 
--- the window that the loop has come to, and the one that the table gives for it
-pub record AtHand (k : ℕ) (table : List ℕ) (w : Window) : Type 0 where
-  pub begins : k ≤ w.0
-  pub ordered : w.0 ≤ w.1
-  pub ends : w.1 < k + 128
-  pub has_day : (found k table w).0 ≤ (found k table w).1
-  pub no_later : (found k table w).1 ≤ w.1
-
+-- so it is of the window that the loop has come to
 pub at_hand : {X : Type 0} (span : X → Window) (f : X → X) (k : ℕ) (table : List ℕ) (xs ys : List X) (i : ℕ) (x : X) (w : Window)
     → Within k 128 (map span xs) → Shorter k table (map span xs) → i < length xs → ys ≡ map f (take i xs) ++ drop i xs
     → x ≡ get_or ys i x → w ≡ span (get_or ys i x) → AtHand k table w

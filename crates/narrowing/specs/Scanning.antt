@@ -55,3 +55,11 @@ found k table w = let a = w.0 - k in let b = w.1 - k in (k + slice_index table (
 abbrev pub Shorter : ℕ → List ℕ → List Window → Type 0
 Shorter k table ws =
     (i : ℕ) → i < length ws → ((found k table (window ws i)).0 ≤ (found k table (window ws i)).1) × ((found k table (window ws i)).1 ≤ (window ws i).1)
+
+-- A window of the days for which the table gives one that has a day and ends no later.
+pub record AtHand (k : ℕ) (table : List ℕ) (w : Window) : Type 0 where
+  pub begins : k ≤ w.0
+  pub ordered : w.0 ≤ w.1
+  pub ends : w.1 < k + 128
+  pub has_day : (found k table w).0 ≤ (found k table w).1
+  pub no_later : (found k table w).1 ≤ w.1

@@ -5,8 +5,9 @@ ghost use Rattle.plans.specs.Narrowing.{narrowed};
 ghost use Rattle.narrowing.specs.Weighing.{Planned};
 ghost use Rattle.narrowing.specs.Verdict.{verdict_of, MarksAfter};
 ghost use Rattle.narrowing.specs.Narrow.{placed, narrow_of, Narrowest};
-ghost use Rattle.narrowing.specs.Scanning.{found, Shorter};
+ghost use Rattle.narrowing.specs.Scanning.{found, AtHand, Shorter};
 
+use crate::counting::places;
 use crate::judging::judge;
 use crate::right::needs_right;
 use crate::scans::{highs, lows};
@@ -15,6 +16,18 @@ use crate::tight::tight_ends;
 use records::limits::{CELLS, EDGES, MOST_DAYS};
 use records::{NarrowingFault, Record, check};
 
+// The window that the table gives for a window.
+fn window_in(day: u16, table: &[u8; CELLS], window: (u16, u16)) -> (u16, u16)
+    requires { AtHand day table.now window }
+    ensures { result ≡ found day table.now window }
+{
+    let (a, b) = places(day, window);
+    (
+        day + table[b * MOST_DAYS + a] as u16,
+        day + table[a * MOST_DAYS + b] as u16,
+    )
+}
+
 // Puts each record into the window that the table gives for its own.
 fn put_windows<R: Record>(day: u16, table: &[u8; CELLS], records: &mut [R])
     requires within { Within day 128 (map R.span records.old) }
@@ -22,13 +35,8 @@ fn put_windows<R: Record>(day: u16, table: &[u8; CELLS], records: &mut [R])
     ensures { records.new ≡ placed R.put (map (found day table.now) (map R.span records.old)) records.old }
 {
     for each in records.iter_mut() {
-        let (first, last) = each.window();
-        let a = (first - day) as usize;
-        let b = (last - day) as usize;
-        each.set_window(
-            day + table[b * MOST_DAYS + a] as u16,
-            day + table[a * MOST_DAYS + b] as u16,
-        );
+        let (first, last) = window_in(day, table, each.window());
+        each.set_window(first, last);
     }
 }
 

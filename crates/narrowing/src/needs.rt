@@ -12,9 +12,9 @@ fn reach(row: &[u16], needs: &[u32], start: u32) -> u32
     ensures { Reach row.now needs.now start (length row.now) result }
 {
     let mut largest = start;
+    // An index loop: a fold over a zip is no faster, and its closure would ask the bound of each sum anew.
     for p in 0..row.len() {
-        let need = needs[p] + row[p] as u32;
-        largest = if need > largest { need } else { largest };
+        largest = largest.max(needs[p] + row[p] as u32);
     }
     largest
 }
@@ -26,8 +26,8 @@ pub(crate) fn needs_left(pairs: &[(u16, u16)], table: &[u16; CELLS], left: &mut 
     ensures small { (v : ℕ) → v ≤ length pairs.now → slice_index left.new v ≤ v * 65535 }
 {
     left[0] = 0;
-    for v in 0..pairs.len() {
-        let start = left[v] + pairs[v].0 as u32;
+    for (v, pair) in pairs.iter().enumerate() {
+        let start = left[v] + pair.0 as u32;
         left[v + 1] = reach(row(table, v), &left[..v + 1], start);
     }
 }

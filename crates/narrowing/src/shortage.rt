@@ -1,28 +1,21 @@
 // A set of days that shows a shortage, and its two counts.
-ghost use Rattle.std.specs.Prelude.{◌≡◌, ℕ, ◌+◌, ◌*◌, ◌<◌, ◌≤◌, map, length, slice_index};
+ghost use Rattle.std.specs.Prelude.{◌≡◌, ℕ, ◌+◌, ◌*◌, ◌<◌, ◌≤◌, List, map, length, MatchOption, slice_index};
+ghost use Rattle.plans.specs.Plans.{Window};
 ghost use Rattle.plans.specs.Runs.{total};
 ghost use Rattle.plans.specs.Sets.{Marks, meeting, needed};
 ghost use Rattle.plans.specs.Needs.{Within};
-ghost use Rattle.narrowing.specs.Counting.{tabled, NeedsOf, Shown};
+ghost use Rattle.narrowing.specs.Counting.{tabled, Counted, NeedsOf, Shown};
 
-use crate::counting::row;
+use crate::counting::{places, row};
 use records::Record;
 use records::limits::{CELLS, EDGES};
 
 // The first day whose need with its cell comes to the goal, where one does.
-fn find_run(row: &[u16], left: &[u32], goal: u32) -> usize
+fn find_run(row: &[u16], left: &[u32], goal: u32) -> Option<usize>
     requires row_len { length row.now ≡ length left.now }
-    requires row_nonzero { 0 < length row.now }
-    requires left_bound { (p : ℕ) → p < length row.now → slice_index left.now p < 2147483648 }
-    ensures within { result < length row.now }
-    ensures found { (p : ℕ) → p < length row.now → goal ≡ slice_index left.now p + slice_index row.now p → goal ≡ slice_index left.now result + slice_index row.now result }
+    ensures { MatchOption result ((p : ℕ) → p < length row.now → goal ≡ slice_index left.now p + slice_index row.now p → ⊥) (λ p. (p < length row.now) × (goal ≡ slice_index left.now p + slice_index row.now p)) }
 {
-    for p in 0..row.len() {
-        if left[p] + row[p] as u32 == goal {
-            return p;
-        }
-    }
-    0
+    row.iter().zip(left).position(|(held, need)| goal.checked_sub(*need) == Some(*held as u32))
 }
 
 // Goes back from the last day by what makes each need so large, and marks the days whose fewest does.
@@ -36,18 +29,23 @@ pub(crate) fn mark_shortage(
     requires marks_len { length marks.old ≡ length pairs.now }
     requires needs_of { NeedsOf pairs.now table.now left.now }
     requires left_bound { (v : ℕ) → v ≤ length pairs.now → slice_index left.now v ≤ v * 65535 }
+    requires counted { (k : ℕ) × (ws : List Window) × Counted k (length pairs.now) ws table.now }
     ensures marks { Marks (length pairs.now) marks.new }
     ensures shown { Shown pairs.now table.now left.now marks.new }
 {
     marks.fill(0);
     let mut v = pairs.len();
+    // A loop with a measure: it goes back by a day or by a whole run, and no list has its steps.
     while v > 0 {
         let day = v - 1;
         if left[v] == left[day] + pairs[day].0 as u32 {
             marks[day] = 1;
             v = day;
         } else {
-            v = find_run(row(table, day), &left[..day + 1], left[v]);
+            match find_run(row(table, day), &left[..day + 1], left[v]) {
+                Some(first) => v = first,
+                None => unreachable!(),
+            }
         }
     }
 }
@@ -58,8 +56,8 @@ fn sum_marks(marks: &[u8], before: &mut [u16; EDGES])
     ensures { (v : ℕ) → v ≤ length marks.now → slice_index before.new v ≡ total (tabled marks.now) v }
 {
     before[0] = 0;
-    for v in 0..marks.len() {
-        before[v + 1] = before[v] + marks[v] as u16;
+    for (v, mark) in marks.iter().enumerate() {
+        before[v + 1] = before[v] + *mark as u16;
     }
 }
 
@@ -75,8 +73,8 @@ pub(crate) fn count_meeting<R: Record>(day: u16, records: &[R], marks: &[u8]) ->
     sum_marks(marks, &mut before);
     let mut met: u16 = 0;
     for each in records {
-        let (first, last) = each.window();
-        if before[(first - day) as usize] < before[(last - day) as usize + 1] {
+        let (a, b) = places(day, each.window());
+        if before[a] < before[b + 1] {
             met += 1;
         }
     }
@@ -90,9 +88,9 @@ pub(crate) fn sum_needed(pairs: &[(u16, u16)], marks: &[u8]) -> u32
     ensures { (k : ℕ) → result ≡ needed k marks.now pairs.now }
 {
     let mut fewests: u32 = 0;
-    for v in 0..pairs.len() {
+    for (v, pair) in pairs.iter().enumerate() {
         if marks[v] == 1 {
-            fewests += pairs[v].0 as u32;
+            fewests += pair.0 as u32;
         }
     }
     fewests

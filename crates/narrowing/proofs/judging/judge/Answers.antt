@@ -16,6 +16,11 @@ overflow_sub-result g c =
     let lt : b < length c.args.pairs.now = omega (arith, R.ends) in
     omega (arith, X.summed p (omega arith), X.summed (b + 1) (omega arith), total_grows (most c.args.pairs.now) p (b + 1) (omega arith))
 
+pub mark_shortage-requires-clause-counted : goal.mark_shortage-requires-clause-counted
+mark_shortage-requires-clause-counted g c =
+    let X = rw c.in-Err-Windows.field-0-is at c.in-Err-Windows.ensures in
+    (c.args.first, map g.R.Record.span c.args.records.now, X.counted)
+
 pub count_meeting-requires : goal.count_meeting-requires
 count_meeting-requires g c =
     let pairs = c.args.pairs.now in

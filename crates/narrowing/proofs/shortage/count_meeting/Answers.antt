@@ -10,21 +10,10 @@ use Rattle.narrowing.proofs.Windows.{told_within}
 use Rattle.narrowing.proofs.Missing.{some_by_sums, having_push}
 use Rattle.narrowing.proofs.shortage.count_meeting.Goals as goal
 
-pub overflow_sub-first : goal.overflow_sub-first
-overflow_sub-first g c =
-    omega (arith, told_within g.R.Record.span c.args.day (length c.args.marks.now) c.args.records.now c.loop-each.each-index _ _ c.requires.within c.loop-each-test.true c.each-item.is c.window-first.ensures)
-
-pub bounds-before-first : goal.bounds-before-first
-bounds-before-first g c =
-    omega (arith, c.requires.marks_len_bound, told_within g.R.Record.span c.args.day (length c.args.marks.now) c.args.records.now c.loop-each.each-index _ _ c.requires.within c.loop-each-test.true c.each-item.is c.window-first.ensures)
-
-pub overflow_sub-last : goal.overflow_sub-last
-overflow_sub-last g c =
-    omega (arith, told_within g.R.Record.span c.args.day (length c.args.marks.now) c.args.records.now c.loop-each.each-index _ _ c.requires.within c.loop-each-test.true c.each-item.is c.window-first.ensures)
-
-pub bounds-before-last : goal.bounds-before-last
-bounds-before-last g c =
-    omega (arith, c.requires.marks_len_bound, told_within g.R.Record.span c.args.day (length c.args.marks.now) c.args.records.now c.loop-each.each-index _ _ c.requires.within c.loop-each-test.true c.each-item.is c.window-first.ensures)
+pub places-a-requires : goal.places-a-requires
+places-a-requires g c =
+    let s = told_within g.R.Record.span c.args.day (length c.args.marks.now) c.args.records.now c.loop-each.each-index _ _ c.requires.within c.loop-each-test.true c.each-item.is c.window.ensures in
+    record { begins = s.0; ordered = s.1; ends = omega (arith, s.2, c.requires.marks_len_bound) }
 
 pub loop-each-preserved : goal.loop-each-preserved
 loop-each-preserved g c =
@@ -33,14 +22,16 @@ loop-each-preserved g c =
     let span = g.R.Record.span in
     let ws = map span c.args.records.now in
     let i : ℕ = c.loop-each.each-index in
-    let w : Window = c.window-first.result in
+    let w : Window = c.window.result in
     let S : ℕ → Bool = in_set k marks in
     let h = c.loop-each-test.true in
     let s : (k ≤ w.0) × (w.0 ≤ w.1) × (w.1 < k + length marks) =
-    told_within span k (length marks) c.args.records.now i _ _ c.requires.within h c.each-item.is c.window-first.ensures in
-    let is = told_at span c.args.records.now i _ w h c.each-item.is c.window-first.ensures in
-    let a : ℕ = w.0 - k in
-    let b : ℕ = w.1 - k + 1 in
+    told_within span k (length marks) c.args.records.now i _ _ c.requires.within h c.each-item.is c.window.ensures in
+    let is = told_at span c.args.records.now i _ w h c.each-item.is c.window.ensures in
+    let a : ℕ = c.places-a.result.0 in
+    let b : ℕ = c.places-a.result.1 + 1 in
+    let ea : a ≡ w.0 - k = ap (λ (q : ℕ × ℕ). q.0) c.places-a.ensures.at in
+    let eb : c.places-a.result.1 ≡ w.1 - k = ap (λ (q : ℕ × ℕ). q.1) c.places-a.ensures.at in
     let n : ℕ = suc w.1 - w.0 in
     let e : k + a ≡ w.0 = omega arith in
     let f : a + n ≡ b = omega arith in
@@ -51,12 +42,12 @@ loop-each-preserved g c =
     let more : meeting k marks (take (i + 1) ws) ≡ meeting k marks (take i ws) + tick (some_day S (days w)) =
     ap (having S) (take_more ws i (0, 0) (simp length-map h)) ∙ having_push S (take i ws) (get_or ws i (0, 0))
     ∙ ap (λ v. having S (take i ws) + tick (some_day S (days v))) (sym is) in
-    elim c.if-before-first.branch [
-      | goal.then-before-first x ↦
-          let one : tick (some_day S (days w)) ≡ 1 = ap tick (sums ∙ lt-ltb _ _ (omega (arith, x.if-before-first.true))) in
+    elim c.if-before-a.branch [
+      | goal.then-before-a x ↦
+          let one : tick (some_day S (days w)) ≡ 1 = ap tick (sums ∙ lt-ltb _ _ (omega (arith, x.if-before-a.true))) in
           (omega (arith, x.met-is, c.loop-each.invariant.0), omega (arith, x.met-is, c.loop-each.invariant.1))
-      | goal.else-before-first x ↦
-          let none : tick (some_day S (days w)) ≡ 0 = ap tick (sums ∙ le-ltb _ _ (omega (arith, x.if-before-first.false))) in
+      | goal.else-before-a x ↦
+          let none : tick (some_day S (days w)) ≡ 0 = ap tick (sums ∙ le-ltb _ _ (omega (arith, x.if-before-a.false))) in
           (omega (arith, x.met-is, c.loop-each.invariant.0), omega (arith, x.met-is, c.loop-each.invariant.1))
     ]
 

@@ -39,49 +39,57 @@ loop-v-preserved-then-left-v c =
           omega (arith, c.if-left-v.true, c.loop-v.invariant.3 k ws C)),
     )
 
-pub find_run-v-requires : goal.find_run-v-requires
-find_run-v-requires c =
+pub find_run-requires : goal.find_run-requires
+find_run-requires c =
     let u : ℕ = c.loop-v.v - 1 in
     let top : c.loop-v.v ≤ length c.args.pairs.now = c.loop-v.invariant.0 in
     let n = c.row.ensures.long in
     let m = front_length c.args.left.now u 129 (omega arith) (omega (arith, c.requires.pairs_len_bound)) in
-    record {
-      row_len = n ∙ sym m;
-      row_nonzero = omega arith;
-      left_bound = λ p h. omega (arith, front_at c.args.left.now u p (omega arith), c.requires.left_bound p (omega arith), c.requires.pairs_len_bound);
-    }
+    record { row_len = n ∙ sym m }
+
+-- by whatever windows the table counts, some run attains the need
+pub unreachable-requires : goal.unreachable-requires
+unreachable-requires c =
+    let v : ℕ = c.loop-v.v in
+    let u : ℕ = v - 1 in
+    let left = c.args.left.now in
+    let top : v ≤ length c.args.pairs.now = c.loop-v.invariant.0 in
+    let n = c.row.ensures.long in
+    let e : suc u ≡ v = omega arith in
+    let ws = c.requires.counted.1 in
+    let k = c.requires.counted.0 in
+    let C = c.requires.counted.2 in
+    let L = c.requires.needs_of k ws C in
+    let f : tabled left (suc u) ≡ get_or left v 0 = ap (tabled left) e in
+    elim (L.attained u (omega arith)) [
+      | inl x ↦ c.if-left-v.false (sym f ∙ x)
+      | inr x ↦
+          let q : ℕ = x.0 in
+          c.in-None.ensures q (omega (arith, x.1)) (omega (arith, f, x.2, c.row.ensures.cells q x.1, C.cells u (omega arith) q x.1, front_at left u q x.1))
+    ]
 
 pub loop-v-preserved : goal.loop-v-preserved
 loop-v-preserved c =
     let v : ℕ = c.loop-v.v in
     let u : ℕ = v - 1 in
-    let p : ℕ = c.find_run-v.result in
+    let p : ℕ = c.in-Some.first in
     let marks = c.loop-v.marks in
     let left = c.args.left.now in
     let pairs = c.args.pairs.now in
     let d : ℕ = length pairs in
     let top : v ≤ d = c.loop-v.invariant.0 in
     let n = c.row.ensures.long in
-    let le : p ≤ u = omega (arith, c.find_run-v.ensures.within) in (
+    let r = c.in-Some.ensures in
+    let le : p ≤ u = omega (arith, r.0) in (
       omega arith,
       c.loop-v.invariant.1,
       (λ j h. c.loop-v.invariant.2 j (omega arith)),
       (λ k ws C.
           let e : suc u ≡ v = omega arith in
           let S : ℕ → Bool = in_set k marks in
-          let L = c.requires.needs_of k ws C in
-          let cell : (q : ℕ) → q ≤ u → get_or c.row.result.now q 0 ≡ forced k ws q v =
-          λ q h. c.row.ensures.cells q h ∙ C.cells u (omega arith) q h ∙ ap (forced k ws q) e in
-          let f : tabled left (suc u) ≡ get_or left v 0 = ap (tabled left) e in
-          let is : get_or left v 0 ≡ get_or left p 0 + forced k ws p v =
-          elim (L.attained u (omega arith)) [
-            | inl x ↦ absurd (c.if-left-v.false (sym f ∙ x))
-            | inr x ↦
-                let q : ℕ = x.0 in
-                let g : forced k ws q (suc u) ≡ forced k ws q v = ap (forced k ws q) e in
-                let r = c.find_run-v.ensures.found q (omega (arith, x.1)) (omega (arith, f, x.2, g, cell q x.1, front_at left u q x.1)) in
-                omega (arith, r, cell p le, front_at left u p le)
-          ] in
+          let cell : get_or c.row.result.now p 0 ≡ forced k ws p v =
+          c.row.ensures.cells p le ∙ C.cells u (omega arith) p le ∙ ap (forced k ws p) e in
+          let is : get_or left v 0 ≡ get_or left p 0 + forced k ws p v = omega (arith, r.1, cell, front_at left u p le) in
           let more = missing_run k d S (k + p) (k + v) ws C.within (λ t l. day_before k marks v t c.loop-v.invariant.2 l) (omega arith) in
           omega (arith, is, more, c.loop-v.invariant.3 k ws C)),
     )
