@@ -2,7 +2,7 @@ use crate::problems::{Problem, SIZE};
 use records::NarrowingFault;
 use std::ops::RangeInclusive;
 
-// The three kinds of reply to a problem that passes the checks, from the one that the fewest assignments allow.
+// The three kinds of reply to a problem that passes the checks, the worst first.
 #[derive(Clone, Copy, PartialEq, Eq, PartialOrd, Ord, Debug)]
 pub enum Reply {
     Overfull,
@@ -11,7 +11,7 @@ pub enum Reply {
 }
 
 // The windows that a set of days has, and the sum of its mosts or fewests.
-#[derive(Clone, Copy, PartialEq, Eq, Debug)]
+#[derive(Clone, Copy, PartialEq, Eq)]
 struct Counts {
     windows: usize,
     sum: u32,
@@ -23,6 +23,17 @@ const ASSIGNMENTS: u16 = 27;
 // The day that an assignment, a number of three digits 0 to 2, gives each place.
 fn assignment(number: u16) -> [u16; SIZE] {
     [number % 3, number / 3 % 3, number / 9 % 3]
+}
+
+// The kind of reply if there were only a day with this fewest and most, and so many records.
+fn shown_by((fewest, most): (u16, u16), load: usize) -> Reply {
+    if load > usize::from(most) {
+        Reply::Overfull
+    } else if load < usize::from(fewest) {
+        Reply::Short
+    } else {
+        Reply::Accepted
+    }
 }
 
 // Whether a day is marked.
@@ -47,30 +58,20 @@ impl Problem {
             .count()
     }
 
-    // Whether no day has more than its most.
-    fn keeps_mosts(&self, days: &[u16]) -> bool {
-        self.pairs.iter().enumerate().all(|(day, (_, most))| self.load(days, day)
-            <= usize::from(*most))
-    }
-
-    // Whether each day has its fewest.
-    fn keeps_fewests(&self, days: &[u16]) -> bool {
-        self.pairs.iter().enumerate().all(|(day, (fewest, _))| usize::from(*fewest)
-            <= self.load(days, day))
-    }
-
-    // The kind of reply if there were no other assignment.
+    // The kind of reply if there were no other assignment: the worst of any day, where each window has its day.
     fn shows(&self, days: &[u16]) -> Reply {
-        if !self.assigns(days) || !self.keeps_mosts(days) {
-            Reply::Overfull
-        } else if !self.keeps_fewests(days) {
-            Reply::Short
-        } else {
-            Reply::Accepted
+        if !self.assigns(days) {
+            return Reply::Overfull;
         }
+        self.pairs
+            .iter()
+            .enumerate()
+            .map(|(day, pair)| shown_by(*pair, self.load(days, day)))
+            .min()
+            .unwrap_or(Reply::Accepted)
     }
 
-    // The kind of reply, by trying every assignment.
+    // The kind of reply: the best that any assignment shows, by trying every one.
     pub fn sought(&self) -> Reply {
         (0..ASSIGNMENTS)
             .map(|number| self.shows(&assignment(number)))
