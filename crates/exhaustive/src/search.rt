@@ -1,201 +1,185 @@
 use crate::problems::{Problem, SIZE};
 use records::NarrowingFault;
+use std::ops::RangeInclusive;
 
-// The three kinds of reply to a problem that passes the checks.
-#[derive(Clone, Copy, PartialEq, Eq, Debug)]
+// The three kinds of reply to a problem that passes the checks, the worst first.
+#[derive(Clone, Copy, PartialEq, Eq, PartialOrd, Ord, Debug)]
 pub enum Reply {
-    Accepted,
     Overfull,
     Short,
+    Accepted,
 }
 
-// The day that an assignment, a number of three digits 0 to 2, gives a place.
-fn day_at(assignment: usize, place: usize) -> u16 {
-    let digit = match place {
-        0 => assignment % 3,
-        1 => assignment / 3 % 3,
-        _ => assignment / 9 % 3,
-    };
-    digit as u16
+// The windows that a set of days has, and the sum of its mosts or fewests.
+#[derive(Clone, Copy, PartialEq, Eq)]
+struct Counts {
+    windows: usize,
+    sum: u32,
 }
 
-// Whether each window of the problem has its day.
-fn assigns(problem: &Problem, assignment: usize) -> bool {
-    for (place, window) in problem.windows.iter().enumerate() {
-        let (first, last) = *window;
-        let day = day_at(assignment, place);
-        if place < problem.count && (day < first || last < day) {
-            return false;
-        }
-    }
-    true
+// How many assignments there are.
+const ASSIGNMENTS: u16 = 27;
+
+// The day that an assignment, a number of three digits 0 to 2, gives each place.
+fn assignment(number: u16) -> [u16; SIZE] {
+    [number % 3, number / 3 % 3, number / 9 % 3]
 }
 
-// How many records an assignment gives a day.
-fn load(problem: &Problem, assignment: usize, day: u16) -> u16 {
-    let mut n: u16 = 0;
-    for place in 0..SIZE {
-        if place < problem.count && day_at(assignment, place) == day {
-            n = n.saturating_add(1);
-        }
+// The kind of reply if there were only a day with this fewest and most, and so many records.
+fn shown_by((fewest, most): (u16, u16), load: usize) -> Reply {
+    if load > usize::from(most) {
+        Reply::Overfull
+    } else if load < usize::from(fewest) {
+        Reply::Short
+    } else {
+        Reply::Accepted
     }
-    n
-}
-
-// Whether no day has more than its most, and whether each has its fewest as well.
-fn keeps(problem: &Problem, assignment: usize) -> (bool, bool) {
-    let mut mosts = true;
-    let mut fewests = true;
-    for (i, pair) in problem.pairs.iter().enumerate() {
-        let (fewest, most) = *pair;
-        let n = load(problem, assignment, i as u16);
-        if i < problem.days && n > most {
-            mosts = false;
-        }
-        if i < problem.days && n < fewest {
-            fewests = false;
-        }
-    }
-    (mosts, mosts && fewests)
-}
-
-// The kind of reply, by trying every assignment.
-pub fn sought(problem: &Problem) -> Reply {
-    let mut kept = false;
-    for assignment in 0..27 {
-        if assigns(problem, assignment) {
-            let (mosts, plan) = keeps(problem, assignment);
-            if plan {
-                return Reply::Accepted;
-            }
-            kept = kept || mosts;
-        }
-    }
-    if kept { Reply::Short } else { Reply::Overfull }
-}
-
-// How many windows lie inside the days `first` to `last`, and the sum of their mosts.
-fn inside(problem: &Problem, first: usize, last: usize) -> (u32, u32) {
-    let mut windows: u32 = 0;
-    for (place, window) in problem.windows.iter().enumerate() {
-        let (a, b) = *window;
-        if place < problem.count && first <= a as usize && b as usize <= last {
-            windows = windows.saturating_add(1);
-        }
-    }
-    let mut mosts: u32 = 0;
-    for (i, pair) in problem.pairs.iter().enumerate() {
-        if first <= i && i <= last {
-            mosts = mosts.saturating_add(pair.1 as u32);
-        }
-    }
-    (windows, mosts)
-}
-
-// Whether the marks are those of the days `first` to `last`.
-fn marks_run(marks: &[u8], days: usize, first: usize, last: usize) -> bool {
-    for (i, mark) in marks.iter().enumerate() {
-        let wanted = if first <= i && i <= last { 1 } else { 0 };
-        if i < days && *mark != wanted {
-            return false;
-        }
-    }
-    true
-}
-
-// The first overfull run by its last day and then from the largest first day back.
-fn first_overfull(problem: &Problem) -> Option<(usize, usize)> {
-    for last in 0..problem.days {
-        for back in 0..=last {
-            let first = last.saturating_sub(back);
-            let (windows, mosts) = inside(problem, first, last);
-            if windows > mosts {
-                return Some((first, last));
-            }
-        }
-    }
-    None
 }
 
 // Whether a day is marked.
-fn marked(marks: &[u8], day: usize) -> bool {
-    match marks.get(day) {
-        Some(mark) => *mark == 1,
-        None => false,
-    }
+fn is_marked(marks: &[u8], day: usize) -> bool {
+    marks.get(day) == Some(&1)
 }
 
-// How many windows meet the marked days, and the sum of their fewests.
-fn meeting(problem: &Problem, marks: &[u8]) -> (u32, u32) {
-    let mut windows: u32 = 0;
-    for (place, window) in problem.windows.iter().enumerate() {
-        let (first, last) = *window;
-        let mut meets = false;
-        for day in 0..SIZE {
-            if first as usize <= day && day <= last as usize && marked(marks, day) {
-                meets = true;
+impl Problem {
+    // Whether an assignment gives each window its day.
+    fn assigns(&self, days: &[u16]) -> bool {
+        self.windows
+            .iter()
+            .zip(days.iter())
+            .all(|((first, last), day)| first <= day && day <= last)
+    }
+
+    // How many records an assignment gives a day.
+    fn load(&self, days: &[u16], day: usize) -> usize {
+        days.iter()
+            .take(self.windows.len())
+            .filter(|each| usize::from(**each) == day)
+            .count()
+    }
+
+    // The kind of reply if there were no other assignment: the worst of any day, where each window has its day.
+    fn shows(&self, days: &[u16]) -> Reply {
+        if !self.assigns(days) {
+            return Reply::Overfull;
+        }
+        self.pairs
+            .iter()
+            .enumerate()
+            .map(|(day, pair)| shown_by(*pair, self.load(days, day)))
+            .min()
+            .unwrap_or(Reply::Accepted)
+    }
+
+    // The kind of reply: the best that any assignment shows, by trying every one.
+    pub fn sought(&self) -> Reply {
+        (0..ASSIGNMENTS)
+            .map(|number| self.shows(&assignment(number)))
+            .max()
+            .unwrap_or(Reply::Overfull)
+    }
+
+    // The windows inside a run of days, and the sum of its mosts.
+    fn inside(&self, run: &RangeInclusive<usize>) -> Counts {
+        let windows = self.windows.iter().filter(|(first, last)| {
+            run.contains(&usize::from(*first)) && run.contains(&usize::from(*last))
+        });
+        let mosts = self
+            .pairs
+            .iter()
+            .enumerate()
+            .filter(|(day, _)| run.contains(day));
+        Counts {
+            windows: windows.count(),
+            sum: mosts.fold(
+                0u32,
+                |sum, (_, (_, most))| sum.saturating_add(u32::from(*most)),
+            ),
+        }
+    }
+
+    // Whether more windows lie inside a run of days than its mosts allow.
+    fn is_overfull(&self, run: &RangeInclusive<usize>) -> bool {
+        let Counts { windows, sum } = self.inside(run);
+        windows > sum as usize
+    }
+
+    // The first overfull run that ends with a day, from the largest first day back.
+    fn overfull_to(&self, last: usize) -> Option<RangeInclusive<usize>> {
+        (0..=last)
+            .rev()
+            .map(|first| first..=last)
+            .find(|run| self.is_overfull(run))
+    }
+
+    // The first overfull run by its last day and then from the largest first day back.
+    fn first_overfull(&self) -> Option<RangeInclusive<usize>> {
+        (0..self.pairs.len()).find_map(|last| self.overfull_to(last))
+    }
+
+    // Whether the marks are those of a run of days.
+    fn marks_run(&self, marks: &[u8], run: &RangeInclusive<usize>) -> bool {
+        marks
+            .iter()
+            .take(self.pairs.len())
+            .enumerate()
+            .all(|(day, mark)| *mark == u8::from(run.contains(&day)))
+    }
+
+    // The windows that meet the marked days, and the sum of their fewests.
+    fn meeting(&self, marks: &[u8]) -> Counts {
+        let windows = self.windows.iter().filter(|(first, last)| {
+            (usize::from(*first)..=usize::from(*last)).any(|day| is_marked(marks, day))
+        });
+        let fewests = self
+            .pairs
+            .iter()
+            .enumerate()
+            .filter(|(day, _)| is_marked(marks, *day));
+        Counts {
+            windows: windows.count(),
+            sum: fewests.fold(
+                0u32,
+                |sum, (_, (fewest, _))| sum.saturating_add(u32::from(*fewest)),
+            ),
+        }
+    }
+
+    // Whether the verdict's reply, with its marks and counts, is a right one.
+    pub fn agrees(&self, reply: Result<(), NarrowingFault>, marks: &[u8]) -> bool {
+        match (reply, self.sought()) {
+            (Ok(()), Reply::Accepted) => true,
+            (Err(NarrowingFault::Overfull { windows, mosts }), Reply::Overfull) => {
+                let counts = Counts {
+                    windows: usize::from(windows),
+                    sum: mosts,
+                };
+                self.first_overfull().is_some_and(|run| self.inside(&run) == counts
+                    && self.marks_run(marks, &run))
             }
-        }
-        if place < problem.count && meets {
-            windows = windows.saturating_add(1);
-        }
-    }
-    let mut fewests: u32 = 0;
-    for (i, pair) in problem.pairs.iter().enumerate() {
-        if i < problem.days && marked(marks, i) {
-            fewests = fewests.saturating_add(pair.0 as u32);
-        }
-    }
-    (windows, fewests)
-}
-
-// Whether the verdict's reply, with its marks and counts, is a right one.
-pub fn agrees(problem: &Problem, reply: Result<(), NarrowingFault>, marks: &[u8]) -> bool {
-    match (reply, sought(problem)) {
-        (Ok(()), Reply::Accepted) => true,
-        (Err(NarrowingFault::Overfull { windows, mosts }), Reply::Overfull) => match first_overfull(
-            problem,
-        ) {
-            Some((first, last)) => {
-                inside(problem, first, last) == (windows as u32, mosts)
-                    && marks_run(marks, problem.days, first, last)
+            (Err(NarrowingFault::Short { windows, fewests }), Reply::Short) => {
+                let counts = Counts {
+                    windows: usize::from(windows),
+                    sum: fewests,
+                };
+                self.meeting(marks) == counts && u32::from(windows) < fewests
             }
-            None => false,
-        },
-        (Err(NarrowingFault::Short { windows, fewests }), Reply::Short) => {
-            meeting(problem, marks) == (windows as u32, fewests) && (windows as u32) < fewests
-        }
-        _ => false,
-    }
-}
-
-// Whether an assignment is a plan.
-fn is_plan(problem: &Problem, assignment: usize) -> bool {
-    let (_, plan) = keeps(problem, assignment);
-    plan && assigns(problem, assignment)
-}
-
-// The smallest and the largest day of a place in any plan.
-pub fn ends(problem: &Problem, place: usize) -> Option<(u16, u16)> {
-    let mut found: Option<(u16, u16)> = None;
-    for assignment in 0..27 {
-        if is_plan(problem, assignment) {
-            let day = day_at(assignment, place);
-            found = match found {
-                Some((low, high)) => Some((day.min(low), day.max(high))),
-                None => Some((day, day)),
-            };
+            _ => false,
         }
     }
-    found
-}
 
-// Whether some plan gives a place a day.
-pub fn possible(problem: &Problem, place: usize, day: u16) -> bool {
-    for assignment in 0..27 {
-        if is_plan(problem, assignment) && day_at(assignment, place) == day {
-            return true;
-        }
+    // Whether some plan gives a place a day.
+    pub fn possible(&self, place: usize, day: u16) -> bool {
+        (0..ASSIGNMENTS).map(assignment).any(|days| days.get(place) == Some(&day)
+            && self.shows(&days) == Reply::Accepted)
     }
-    false
+
+    // The smallest and the largest day of a place in any plan.
+    pub fn ends(&self, place: usize) -> Option<(u16, u16)> {
+        let low = (0..SIZE as u16).find(|day| self.possible(place, *day))?;
+        let high = (0..SIZE as u16)
+            .rev()
+            .find(|day| self.possible(place, *day))?;
+        Some((low, high))
+    }
 }
