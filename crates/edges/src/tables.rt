@@ -39,7 +39,11 @@ fn alike(
 fn orders_are_narrowed_as_windows(rt: HostRuntime) -> Result<(), Fail> {
     let heap = rt.alloc();
     let one_a_day = [(0, 1), (0, 1), (0, 1)];
-    let three = [Window::from((10, 12)), Window::from((10, 10)), Window::from((11, 12))];
+    let three = [
+        Window::from((10, 12)),
+        Window::from((10, 10)),
+        Window::from((11, 12)),
+    ];
     alike(&rt, heap, &one_a_day, &three, Ok(()))?;
     alike(
         &rt,
@@ -52,7 +56,11 @@ fn orders_are_narrowed_as_windows(rt: HostRuntime) -> Result<(), Fail> {
         &rt,
         heap,
         &one_a_day,
-        &[Window::from((10, 10)), Window::from((10, 12)), Window::from((10, 10))],
+        &[
+            Window::from((10, 10)),
+            Window::from((10, 12)),
+            Window::from((10, 10)),
+        ],
         Err(NarrowingFault::Overfull {
             windows: 2,
             mosts: 1,
@@ -64,7 +72,10 @@ fn orders_are_narrowed_as_windows(rt: HostRuntime) -> Result<(), Fail> {
 fn a_table_holds_512_orders(rt: HostRuntime) {
     let mut table = Table::empty();
     for number in 0..512 {
-        assert_eq!(rt; table.enter(number, Window::from((3, 4))), Some(usize::from(number)));
+        assert_eq!(rt;
+            table.enter(number, Window::from((3, 4))),
+            Some(usize::from(number))
+        );
     }
     assert_eq!(rt; table.len(), 512);
     assert_eq!(rt; table.enter(512, Window::from((3, 4))), None);

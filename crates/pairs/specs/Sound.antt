@@ -15,7 +15,6 @@ passes : (b : Bool) (x : Option ℕ) (i : ℕ) → is_some (cond (not b) (Some i
 passes true x i e = (refl, e)
 passes false x i e = absurd (true≢false e)
 
-
 sound_from_place : (i : ℕ) (pairs : List (ℕ × ℕ)) → is_some (position_from (λ p. not (sound p)) i pairs) ≡ false → (t : ℕ) → Sound (slice_index_or pairs t (0, 0))
 sound_from_place i [] e t = (omega arith, omega arith)
 sound_from_place i (p ∷ ps) e zero = sound_from p (passes (sound p) (position_from (λ q. not (sound q)) (i + 1) ps) i e).0

@@ -60,12 +60,7 @@ impl Table {
 
     // Lets out the orders whose day is today: their numbers go to the front of a list, and the others stay in the table.
     // Tells how many went; nothing, where there are fewer days than orders held or the list is shorter, and then nothing changes.
-    pub fn let_out(
-        &mut self,
-        today: u16,
-        days: &[u16],
-        list: &mut [u16],
-    ) -> Option<usize>
+    pub fn let_out(&mut self, today: u16, days: &[u16], list: &mut [u16]) -> Option<usize>
         ensures answer { result ≡ (if room_for self.old days.now && room_for self.old list.old then Some (length (due today self.old days.now)) else None) }
         ensures list { list.new ≡ (if is_some result then onto (due today self.old days.now) list.old else list.old) }
         ensures held { held_in self.new ≡ (if is_some result then staying today (held_in self.old) (days_of self.old days.now) else held_in self.old) }

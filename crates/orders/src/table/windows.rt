@@ -77,11 +77,7 @@ impl Table {
     }
 
     // The first plan from today on: a day for each order; none where there is no plan.
-    pub fn plan(
-        &self,
-        today: u16,
-        pairs: &[(u16, u16)],
-    ) -> Result<Option<Days>, NarrowingFault>
+    pub fn plan(&self, today: u16, pairs: &[(u16, u16)]) -> Result<Option<Days>, NarrowingFault>
         ensures { result ≡ planned_of today pairs.now (begun today self.now) }
     {
         let begun = self.begun_at(today);

@@ -49,11 +49,7 @@ impl State {
     }
 
     // The days of the first plan.
-    pub(crate) fn planned<C: Calendar>(
-        &self,
-        calendar: &C,
-        subject: u16,
-    ) -> Result<Days, BookFault>
+    pub(crate) fn planned<C: Calendar>(&self, calendar: &C, subject: u16) -> Result<Days, BookFault>
         ensures refusal { refusal_in result ≡ quiet subject (weigh_ledger (C.told calendar.now) (ledger_of self.now) []) }
         ensures planned { Planned (C.told calendar.now) (ledger_of self.now) result }
     {

@@ -19,7 +19,10 @@ impl State {
         self.check_turn(list.len())
             .map_err(|check| BookFault::about(self.today, check))?;
         let days = self.planned(calendar, self.today)?;
-        let out = self.table.let_out(self.today, days.as_slice(), list).unwrap();
+        let out = self
+            .table
+            .let_out(self.today, days.as_slice(), list)
+            .unwrap();
         // the slot of today is that of the day that enters the horizon
         self.lit[usize::from(self.today) % HORIZON] = false;
         self.today += 1;
