@@ -17,5 +17,5 @@ pub(crate) fn piece<'a>(bytes: &'a [u8], place: usize, end: u8) -> &'a [u8]
 {
     let rest = &bytes[place..];
     let n = distance(rest, end);
-    &rest[0..n]
+    &rest[..n]
 }

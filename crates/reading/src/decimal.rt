@@ -16,12 +16,8 @@ fn step(n: u16, b: u8) -> Option<u16>
 pub fn number(bytes: &[u8]) -> Option<u16>
     ensures { result ≡ number_of bytes.now }
 {
-    if let [] | [b'0', _, ..] = bytes {
-        return None;
+    match bytes {
+        [] | [b'0', _, ..] => None,
+        _ => bytes.iter().try_fold(0, |n, b| step(n, *b)),
     }
-    let mut n = 0;
-    for b in bytes {
-        n = step(n, *b)?;
-    }
-    Some(n)
 }

@@ -19,8 +19,9 @@ fn numbers(fields: Fields) -> Result<Numbers, Unfit>
     for field in fields {
         match field {
             Field::Number { number, .. } => numbers.push(number),
-            Field::Letter { column, .. } => return Err(Unfit::BadField(column)),
-            Field::Bad { column, .. } => return Err(Unfit::BadField(column)),
+            Field::Letter { column, .. } | Field::Bad { column, .. } => {
+                return Err(Unfit::BadField(column));
+            }
         }
     }
     Ok(numbers)
@@ -31,9 +32,7 @@ pub fn line_numbers(line: &[u8], wanted: u8, count: Count) -> Result<Numbers, Un
     ensures value { map_ok numbers_of result ≡ fitting wanted (fits count) (headed line.now) }
     ensures count { IfOk result (λ n. fits count (length (numbers_of n)) ≡ true) }
 {
-    let Some((letter, fields)) = heading(line) else {
-        return Err(Unfit::BadLine);
-    };
+    let (letter, fields) = heading(line).ok_or(Unfit::BadLine)?;
     if letter != wanted || !count.allows(fields.left()) {
         return Err(Unfit::BadLine);
     }

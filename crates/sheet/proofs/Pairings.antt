@@ -1,5 +1,5 @@
 -- Numbers taken two by two.
-use Rattle.std.proofs.Common.{◌≡◌, ℕ, suc, ◌/◌, ◌<◌, List, [], ◌∷◌, ◌++◌, length, get_or, refl, ap, ◌∙◌, arith}
+use Rattle.std.proofs.Common.{◌≡◌, ℕ, suc, ◌/◌, List, [], ◌∷◌, ◌++◌, length, get_or, refl, ap, ◌∙◌, arith}
 use Rattle.sheet.specs.Header.{in_pairs}
 
 pub length_in_pairs : (ns : List ℕ) → length (in_pairs ns) ≡ length ns / 2
@@ -13,8 +13,3 @@ in_pairs_more [] ns h = absurd (omega arith)
 in_pairs_more (a ∷ []) ns h = absurd (omega arith)
 in_pairs_more (a ∷ b ∷ []) ns h = refl
 in_pairs_more (a ∷ b ∷ c ∷ x) ns h = absurd (omega arith)
-
-pub no_pair : (ns : List ℕ) → length ns < 2 → in_pairs ns ≡ []
-no_pair [] h = refl
-no_pair (a ∷ []) h = refl
-no_pair (a ∷ b ∷ ns) h = absurd (omega arith)

@@ -1,9 +1,8 @@
 use Rattle.std.proofs.Common.{◌≡◌, ◌∷◌, ◌++◌, length, get_or, ap, rules, arith}
 use Rattle.std.proofs.lemmas.List.{length-append}
-use Rattle.std.proofs.lemmas.Grind.{common_steps}
 use Rattle.std.specs.Slice.Iter.{chunks_exact_rest}
 use Rattle.sheet.specs.Header.{in_pairs}
-use Rattle.sheet.proofs.Pairings.{length_in_pairs, in_pairs_more, no_pair}
+use Rattle.sheet.proofs.Pairings.{length_in_pairs, in_pairs_more}
 use Rattle.sheet.proofs.pairing.pairs_of.Goals as goal
 
 pub push-requires : goal.push-requires
@@ -14,13 +13,3 @@ push-requires c =
     let cut = c.in-Some.ensures.steps.1.0 in
     let all : c.loop-pair.pairs.items ++ ((get_or pair 0 0, get_or pair 1 0) ∷ in_pairs rest) ≡ in_pairs c.args.numbers.now = cc in
     (search rules, omega (arith, simp length-append at (ap length all), length_in_pairs c.args.numbers.now))
-
-pub loop-pair-preserved : goal.loop-pair-preserved
-loop-pair-preserved c =
-    let more = in_pairs_more c.in-Some.pair.now (chunks_exact_rest c.next.new.self) (grind arith) in
-    grind (arith, common_steps)
-
-pub returns : goal.returns
-returns c =
-    let none = no_pair (chunks_exact_rest c.loop-pair.pair-iterator) (grind arith) in
-    grind (arith, common_steps)
