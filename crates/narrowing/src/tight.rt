@@ -88,6 +88,7 @@ pub(crate) fn tight_ends(
     ensures early { EarliestOf pairs.now table.now left.now right.now windows earliest.new }
     ensures late { LatestOf pairs.now table.now left.now right.now windows latest.new }
 {
+    // By the day, which has a place in five lists.
     for v in 0..pairs.len() {
         let end = v as u16 + 1;
         let runs = Runs {
