@@ -1,6 +1,6 @@
 -- Windows with one place closed to a day, and lists that are written over.
-use Rattle.std.proofs.Common.{◌≡◌, ℕ, zero, suc, ◌+◌, ◌-◌, ◌<◌, ◌≤◌, Bool, true, false, ◌&&◌, ltb, leb, List, [], ◌∷◌, ◌++◌, map, length, get_or, take, drop, set, Ok, Err, sym, refl, ap, ◌∙◌, subst, inl, inr, arith}
-use Rattle.std.proofs.lemmas.List.{set-append_right, map_more, length-map, length-take-le, drop_more, append_assoc, set-set, set-get_or, map-set, get_or-map, take_at}
+use Rattle.std.proofs.Common.{◌≡◌, ℕ, zero, suc, ◌+◌, ◌-◌, ◌<◌, ◌≤◌, Bool, true, false, ◌&&◌, ltb, leb, List, [], ◌∷◌, ◌++◌, map, length, get_or, take, drop, set, Ok, Err, sym, ap, ◌∙◌, subst, inl, inr, arith}
+use Rattle.std.proofs.lemmas.List.{set-append_right, map_more, length-map, length-take-le, drop_more, append_assoc, set-set, set-get_or, map-set, get_or-map}
 use Rattle.std.proofs.lemmas.Bool.{leb-true, cases_Bool, both_ways, ltb-true, and_parts}
 use Rattle.plans.specs.Plans.{Window, Pair, Plan}
 use Rattle.plans.specs.Needs.{Within, Proper}

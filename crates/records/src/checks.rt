@@ -23,6 +23,7 @@ fn check_pairs(first: u16, pairs: &[(u16, u16)]) -> Result<(), NarrowingFault>
     requires { first + length pairs.now ≤ 65536 }
     ensures { result ≡ pairs_check first pairs.now }
 {
+    // A match and no map_or: only of a place that was found is it known that the day after it is one.
     match first_bad_pair(pairs) {
         Some(place) => Err(NarrowingFault::BadPair(first + place as u16)),
         None => Ok(()),
