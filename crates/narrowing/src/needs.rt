@@ -12,9 +12,8 @@ fn reach(row: &[u16], needs: &[u32], start: u32) -> u32
     ensures { Reach row.now needs.now start (length row.now) result }
 {
     let mut largest = start;
-    // An index loop: a fold over a zip is no faster, and its closure would ask the bound of each sum anew.
-    for p in 0..row.len() {
-        largest = largest.max(needs[p] + row[p] as u32);
+    for (held, need) in row.iter().zip(needs) {
+        largest = largest.max(*need + *held as u32);
     }
     largest
 }

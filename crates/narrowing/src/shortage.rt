@@ -72,6 +72,7 @@ pub(crate) fn count_meeting<R: Record>(day: u16, records: &[R], marks: &[u8]) ->
     let mut before = [0u16; EDGES];
     sum_marks(marks, &mut before);
     let mut met: u16 = 0;
+    // A loop: in a filter the closure would ask each window's bounds anew.
     for each in records {
         let (a, b) = places(day, each.window());
         if before[a] < before[b + 1] {
@@ -88,8 +89,8 @@ pub(crate) fn sum_needed(pairs: &[(u16, u16)], marks: &[u8]) -> u32
     ensures { (k : ℕ) → result ≡ needed k marks.now pairs.now }
 {
     let mut fewests: u32 = 0;
-    for (v, pair) in pairs.iter().enumerate() {
-        if marks[v] == 1 {
+    for (pair, mark) in pairs.iter().zip(marks) {
+        if *mark == 1 {
             fewests += pair.0 as u32;
         }
     }
