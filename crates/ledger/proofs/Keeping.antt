@@ -128,7 +128,7 @@ passed c L k marks h = go (first_fault (checks L k)) h
     go None e = refl
     go (Some n) e = absurd (both_ways true e refl)
 
-refused_so : (b : Bool) (n about : ℕ) (s : List ℕ) (w m : ℕ) → refuses (cond b (lacks n about s w m) (refused n about)) ≡ true
+pub refused_so : (b : Bool) (n about : ℕ) (s : List ℕ) (w m : ℕ) → refuses (cond b (lacks n about s w m) (refused n about)) ≡ true
 refused_so true n about s w m = refl
 refused_so false n about s w m = refl
 

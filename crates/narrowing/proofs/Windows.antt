@@ -6,12 +6,9 @@ use Rattle.records.proofs.Windows.{told_at}
 use Rattle.plans.specs.Plans.{Window, tick}
 use Rattle.plans.specs.Runs.{lies, inside}
 use Rattle.plans.specs.Needs.{Within, forced}
+use Rattle.plans.proofs.Sets.{tick_small}
 use Rattle.narrowing.specs.Counting.{matching, Tallied}
 use Rattle.narrowing.proofs.Writes.{sum_drop}
-
-tick_small : (b : Bool) → tick b ≤ 1
-tick_small true = omega arith
-tick_small false = omega arith
 
 -- a window at a place stands in the days
 pub window_at : (k d : ℕ) (ws : List Window) (i : ℕ) → Within k d ws → i < length ws

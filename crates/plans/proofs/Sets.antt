@@ -46,7 +46,7 @@ pub marks_long : (S : ℕ → Bool) (t₀ d : ℕ) → length (marks_of S t₀ d
 marks_long S t₀ zero = refl
 marks_long S t₀ (suc d) = omega (arith, marks_long S (suc t₀) d)
 
-tick_small : (b : Bool) → tick b ≤ 1
+pub tick_small : (b : Bool) → tick b ≤ 1
 tick_small true = omega arith
 tick_small false = omega arith
 

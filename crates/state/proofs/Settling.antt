@@ -15,6 +15,7 @@ use Rattle.state.specs.Weights.{answer_of, ledger_by, Settles}
 use Rattle.faults.specs.declared.BookFault.{BookFault}
 use Rattle.ledger.specs.Law.{Passes}
 use Rattle.ledger.proofs.Days.{map_from_long, pairs_long}
+use Rattle.ledger.proofs.Keeping.{refused_so}
 use Rattle.state.proofs.Passing.{marks_enough}
 use Rattle.state.proofs.Weighing.{Alike, Alike.both_accepted, Alike.both_overfull, Alike.both_short, weights_alike}
 
@@ -30,16 +31,12 @@ module _ (c : Calendar) (L : Ledger) (k : Call) (marks : List ℕ) where
       → reply c L k marks ≡ settled k (subject L k) L.today marks (told c L k) (weigh c M marks)
   reply_weighed M e w = ap (past_checks c L k marks) e ∙ ap (past_weighing c L k marks) w
 
-refused_cond : (b : Bool) (n a : ℕ) (s : List ℕ) (w m : ℕ) → refuses (cond b (lacks n a s w m) (refused n a)) ≡ true
-refused_cond true n a s w m = refl
-refused_cond false n a s w m = refl
-
 -- The ledger past the checks.
 ledger_alike : (k : Call) (a t : ℕ) (L M : Ledger) (marks : List ℕ) (r : Reply) → refuses r ≡ false → {V W : Weight} → Alike V W
     → ledger_by L M V ≡ cond (refuses (settled k a t marks r W)) L M
 ledger_alike k a t L M marks r n both_accepted = rw n
-ledger_alike k a t L M marks r n (both_overfull run w m) = rw (refused_cond (edits k) 20 a (run_marks t 56 run) w m)
-ledger_alike k a t L M marks r n (both_short x y v w) = rw (refused_cond (edits k) 21 a marks v w)
+ledger_alike k a t L M marks r n (both_overfull run w m) = rw (refused_so (edits k) 20 a (run_marks t 56 run) w m)
+ledger_alike k a t L M marks r n (both_short x y v w) = rw (refused_so (edits k) 21 a marks v w)
 
 pub ledger_settled : (c : Calendar) (L M N : Ledger) (k : Call) (marks : List ℕ) → first_fault (checks L k) ≡ None → weighed L k ≡ Some M
     → refuses (told c L k) ≡ false → made c L k ≡ M → N ≡ ledger_by L M (weigh c M marks) → N ≡ ledger_after c L k
