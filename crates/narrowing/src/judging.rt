@@ -7,6 +7,7 @@ ghost use Rattle.narrowing.specs.Counting.{Blank};
 ghost use Rattle.narrowing.specs.Weighing.{Planned};
 ghost use Rattle.narrowing.specs.Verdict.{told, Marked, verdict_of, MarksAfter, VerdictMeans};
 
+use crate::days::Days;
 use crate::runs::mark_run;
 use crate::shortage::{count_meeting, mark_shortage, sum_needed};
 use crate::tables::{Lack, Tables};
@@ -15,35 +16,34 @@ use records::{NarrowingFault, Record, check};
 
 // The verdict past the checks, and the tables that it goes by.
 pub(crate) fn judge<R: Record>(
-    first: u16,
-    pairs: &[(u16, u16)],
+    days: &Days,
     records: &[R],
     marks: &mut [u8],
     tables: &mut Tables,
 ) -> Result<(), NarrowingFault>
-    requires pairs_len_bound { (length pairs.now ≤ 128) × (length records.now ≤ 512) }
-    requires pairs_in_bounds { length pairs.now ≤ length marks.old }
-    requires proper { Proper first pairs.now (map R.span records.now) }
+    requires records_len_bound { length records.now ≤ 512 }
+    requires pairs_in_bounds { length days.now.pairs.now ≤ length marks.old }
+    requires proper { Proper days.now.first days.now.pairs.now (map R.span records.now) }
     requires blank { Blank tables.old.held }
-    ensures answer { result ≡ told (reply first pairs.now (map R.span records.now) (take (length pairs.now) marks.new)) }
-    ensures marks { Marked first pairs.now (map R.span records.now) marks.old marks.new (reply first pairs.now (map R.span records.now) (take (length pairs.now) marks.new)) }
-    ensures tables { result ≡ Ok tt → Planned first pairs.now (map R.span records.now) tables.new }
+    ensures answer { result ≡ told (reply days.now.first days.now.pairs.now (map R.span records.now) (take (length days.now.pairs.now) marks.new)) }
+    ensures marks { Marked days.now.first days.now.pairs.now (map R.span records.now) marks.old marks.new (reply days.now.first days.now.pairs.now (map R.span records.now) (take (length days.now.pairs.now) marks.new)) }
+    ensures tables { result ≡ Ok tt → Planned days.now.first days.now.pairs.now (map R.span records.now) tables.new }
 {
-    let days = pairs.len();
-    match tables.weigh(first, pairs, records) {
+    let count = days.pairs.len();
+    match tables.weigh(days, records) {
         Ok(()) => Ok(()),
         Err(Lack::Room(begin, end)) => {
-            mark_run(begin, end, &mut marks[..days]);
+            mark_run(begin, end, &mut marks[..count]);
             Err(NarrowingFault::Overfull {
                 windows: tables.held[end * MOST_DAYS + begin],
                 mosts: tables.before[end + 1] - tables.before[begin],
             })
         }
         Err(Lack::Windows) => {
-            mark_shortage(pairs, &tables.held, &tables.left, &mut marks[..days]);
+            mark_shortage(days, &tables.held, &tables.left, &mut marks[..count]);
             Err(NarrowingFault::Short {
-                windows: count_meeting(first, records, &marks[..days]),
-                fewests: sum_needed(pairs, &marks[..days]),
+                windows: count_meeting(days.first, records, &marks[..count]),
+                fewests: sum_needed(days, &marks[..count]),
             })
         }
     }
@@ -64,5 +64,5 @@ pub fn verdict<R: Record>(
 {
     check(first, pairs, records, marks.len())?;
     let mut tables = Tables::blank();
-    judge(first, pairs, records, marks, &mut tables)
+    judge(&Days { first, pairs }, records, marks, &mut tables)
 }

@@ -1,11 +1,9 @@
 // Records with windows on a range of days: the verdict whether some plan gives each of them a day, the narrowing of their
 // windows to the days that plans give them, and the question whether a plan gives one of them a certain day.
-//
-// The first day and the pairs go as two parameters: the public calls take every input, and past the checks one struct of them,
-// which borrows, would make each contract say `days.entry.pairs.now` for `pairs.now`.
 #![tactic(auto)]
 
 mod counting;
+mod days;
 mod judging;
 pub mod laws;
 mod narrowing;

@@ -8,6 +8,7 @@ ghost use Rattle.narrowing.specs.Narrow.{placed, narrow_of, Narrowest};
 ghost use Rattle.narrowing.specs.Scanning.{found, AtHand, Shorter};
 
 use crate::counting::places;
+use crate::days::Days;
 use crate::judging::judge;
 use crate::right::needs_right;
 use crate::scans::{highs, lows};
@@ -41,19 +42,19 @@ fn put_windows<R: Record>(day: u16, table: &[u8; CELLS], records: &mut [R])
 }
 
 // Narrows where there is a plan, by the tables of the verdict.
-fn narrow_counted<R: Record>(first: u16, pairs: &[(u16, u16)], tables: &Tables, records: &mut [R])
-    requires pairs_len_bound { (length pairs.now ≤ 128) × (length records.old ≤ 512) }
-    requires proper { Proper first pairs.now (map R.span records.old) }
-    requires planned { Planned first pairs.now (map R.span records.old) tables.now }
-    ensures { records.new ≡ placed R.put (narrowed first pairs.now (map R.span records.old)) records.old }
+fn narrow_counted<R: Record>(days: &Days, tables: &Tables, records: &mut [R])
+    requires records_len_bound { length records.old ≤ 512 }
+    requires proper { Proper days.now.first days.now.pairs.now (map R.span records.old) }
+    requires planned { Planned days.now.first days.now.pairs.now (map R.span records.old) tables.now }
+    ensures { records.new ≡ placed R.put (narrowed days.now.first days.now.pairs.now (map R.span records.old)) records.old }
 {
-    let days = pairs.len();
+    let count = days.pairs.len();
     let mut right = [0u32; EDGES];
-    needs_right(pairs, &tables.held, &mut right);
+    needs_right(days, &tables.held, &mut right);
     let mut earliest = [0u16; EDGES];
     let mut latest = [0u16; EDGES];
     tight_ends(
-        pairs,
+        days,
         records.len() as u32,
         &tables.held,
         &tables.before,
@@ -63,9 +64,9 @@ fn narrow_counted<R: Record>(first: u16, pairs: &[(u16, u16)], tables: &Tables, 
         &mut latest,
     );
     let mut ends = [0u8; CELLS];
-    lows(days, &earliest, &mut ends);
-    highs(days, &latest, &mut ends);
-    put_windows(first, &ends, records);
+    lows(count, &earliest, &mut ends);
+    highs(count, &latest, &mut ends);
+    put_windows(days.first, &ends, records);
 }
 
 // Puts each record into the window from the smallest to the largest day that a plan gives it; the rest of each record
@@ -83,7 +84,8 @@ pub fn narrow<R: Record>(
 {
     check(first, pairs, records, marks.len())?;
     let mut tables = Tables::blank();
-    judge(first, pairs, records, marks, &mut tables)?;
-    narrow_counted(first, pairs, &tables, records);
+    let days = Days { first, pairs };
+    judge(&days, records, marks, &mut tables)?;
+    narrow_counted(&days, &tables, records);
     Ok(())
 }

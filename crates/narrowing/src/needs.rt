@@ -3,6 +3,7 @@ ghost use Rattle.std.specs.Prelude.{◌≡◌, ℕ, ◌*◌, ◌<◌, ◌≤◌,
 ghost use Rattle.narrowing.specs.Counting.{Reach, NeedsOf};
 
 use crate::counting::row;
+use crate::days::Days;
 use records::limits::{CELLS, EDGES};
 
 // The largest of the start and of each need with its cell.
@@ -19,13 +20,12 @@ fn reach(row: &[u16], needs: &[u32], start: u32) -> u32
 }
 
 // What the days before each day need: the day's fewest more, or what a run that ends there holds.
-pub(crate) fn needs_left(pairs: &[(u16, u16)], table: &[u16; CELLS], left: &mut [u32; EDGES])
-    requires pairs_len_bound { length pairs.now ≤ 128 }
-    ensures needs { NeedsOf pairs.now table.now left.new }
-    ensures small { (v : ℕ) → v ≤ length pairs.now → slice_index left.new v ≤ v * 65535 }
+pub(crate) fn needs_left(days: &Days, table: &[u16; CELLS], left: &mut [u32; EDGES])
+    ensures needs { NeedsOf days.now.pairs.now table.now left.new }
+    ensures small { (v : ℕ) → v ≤ length days.now.pairs.now → slice_index left.new v ≤ v * 65535 }
 {
     left[0] = 0;
-    for (v, pair) in pairs.iter().enumerate() {
+    for (v, pair) in days.pairs.iter().enumerate() {
         let start = left[v] + pair.0 as u32;
         left[v + 1] = reach(row(table, v), &left[..v + 1], start);
     }

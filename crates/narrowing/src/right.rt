@@ -4,6 +4,7 @@ ghost use Rattle.narrowing.specs.Counting.{Blank};
 ghost use Rattle.narrowing.specs.Scanning.{RightNeedsOf};
 
 use crate::counting::row;
+use crate::days::Days;
 use records::limits::{CELLS, EDGES};
 
 // Each need becomes the larger of itself and its cell with the need after the row's last day.
@@ -19,15 +20,14 @@ fn lift(row: &[u16], after: u32, needs: &mut [u32])
 }
 
 // What each day and the days after it need: its fewest more, or what a run that begins there holds.
-pub(crate) fn needs_right(pairs: &[(u16, u16)], table: &[u16; CELLS], right: &mut [u32; EDGES])
-    requires pairs_len_bound { length pairs.now ≤ 128 }
-    requires blank { Blank right.old }
-    ensures { RightNeedsOf pairs.now table.now right.new }
+pub(crate) fn needs_right(days: &Days, table: &[u16; CELLS], right: &mut [u32; EDGES])
+    requires { Blank right.old }
+    ensures { RightNeedsOf days.now.pairs.now table.now right.new }
 {
     // By the day, which names the row and the needs as well as the pair.
-    for v in (0..pairs.len()).rev() {
+    for v in (0..days.pairs.len()).rev() {
         let after = right[v + 1];
         lift(row(table, v), after, &mut right[..v + 1]);
-        right[v] = right[v].max(pairs[v].0 as u32 + after);
+        right[v] = right[v].max(days.pairs[v].0 as u32 + after);
     }
 }

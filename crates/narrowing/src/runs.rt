@@ -4,15 +4,15 @@ ghost use Rattle.plans.specs.Sets.{run_marks};
 ghost use Rattle.narrowing.specs.Counting.{Summed, Fits, Found};
 
 use crate::counting::row;
+use crate::days::Days;
 use records::limits::{CELLS, EDGES};
 
 // The sums of the mosts before each day.
-pub(crate) fn sum_mosts(pairs: &[(u16, u16)], before: &mut [u32; EDGES])
-    requires pairs_len_bound { length pairs.now ≤ 128 }
-    ensures { Summed pairs.now before.new }
+pub(crate) fn sum_mosts(days: &Days, before: &mut [u32; EDGES])
+    ensures { Summed days.now.pairs.now before.new }
 {
     before[0] = 0;
-    for (v, pair) in pairs.iter().enumerate() {
+    for (v, pair) in days.pairs.iter().enumerate() {
         before[v + 1] = before[v] + pair.1 as u32;
     }
 }
@@ -34,16 +34,15 @@ fn last_over(row: &[u16], before: &[u32], top: u32) -> Option<usize>
 
 // The overfull run that 20 names, as its first and its last day.
 pub(crate) fn overfull(
-    pairs: &[(u16, u16)],
+    days: &Days,
     table: &[u16; CELLS],
     before: &[u32; EDGES],
 ) -> Option<(usize, usize)>
-    requires pairs_len_bound { length pairs.now ≤ 128 }
-    requires summed { Summed pairs.now before.now }
-    ensures { Found pairs.now table.now result }
+    requires { Summed days.now.pairs.now before.now }
+    ensures { Found days.now.pairs.now table.now result }
 {
     // By its number: a last day has a row, two sums and a place in the answer.
-    for last in 0..pairs.len() {
+    for last in 0..days.pairs.len() {
         if let Some(first) = last_over(row(table, last), &before[..last + 1], before[last + 1]) {
             return Some((first, last));
         }

@@ -7,6 +7,7 @@ ghost use Rattle.plans.specs.Needs.{Within};
 ghost use Rattle.narrowing.specs.Counting.{tabled, Counted, NeedsOf, Shown};
 
 use crate::counting::{places, row};
+use crate::days::Days;
 use records::Record;
 use records::limits::{CELLS, EDGES};
 
@@ -20,25 +21,24 @@ fn find_run(row: &[u16], left: &[u32], goal: u32) -> Option<usize>
 
 // Goes back from the last day by what makes each need so large, and marks the days whose fewest does.
 pub(crate) fn mark_shortage(
-    pairs: &[(u16, u16)],
+    days: &Days,
     table: &[u16; CELLS],
     left: &[u32; EDGES],
     marks: &mut [u8],
 )
-    requires pairs_len_bound { length pairs.now ≤ 128 }
-    requires marks_len { length marks.old ≡ length pairs.now }
-    requires needs_of { NeedsOf pairs.now table.now left.now }
-    requires left_bound { (v : ℕ) → v ≤ length pairs.now → slice_index left.now v ≤ v * 65535 }
-    requires counted { (k : ℕ) × (ws : List Window) × Counted k (length pairs.now) ws table.now }
-    ensures marks { Marks (length pairs.now) marks.new }
-    ensures shown { Shown pairs.now table.now left.now marks.new }
+    requires marks_len { length marks.old ≡ length days.now.pairs.now }
+    requires needs_of { NeedsOf days.now.pairs.now table.now left.now }
+    requires left_bound { (v : ℕ) → v ≤ length days.now.pairs.now → slice_index left.now v ≤ v * 65535 }
+    requires counted { (k : ℕ) × (ws : List Window) × Counted k (length days.now.pairs.now) ws table.now }
+    ensures marks { Marks (length days.now.pairs.now) marks.new }
+    ensures shown { Shown days.now.pairs.now table.now left.now marks.new }
 {
     marks.fill(0);
-    let mut v = pairs.len();
+    let mut v = days.pairs.len();
     // A loop with a measure: it goes back by a day or by a whole run, and no list has its steps.
     while v > 0 {
         let day = v - 1;
-        if left[v] == left[day] + pairs[day].0 as u32 {
+        if left[v] == left[day] + days.pairs[day].0 as u32 {
             marks[day] = 1;
             v = day;
         } else {
@@ -83,13 +83,12 @@ pub(crate) fn count_meeting<R: Record>(day: u16, records: &[R], marks: &[u8]) ->
 }
 
 // The sum of the fewests of the marked days.
-pub(crate) fn sum_needed(pairs: &[(u16, u16)], marks: &[u8]) -> u32
-    requires pairs_len_bound { length pairs.now ≤ 128 }
-    requires marks_len { length marks.now ≡ length pairs.now }
-    ensures { (k : ℕ) → result ≡ needed k marks.now pairs.now }
+pub(crate) fn sum_needed(days: &Days, marks: &[u8]) -> u32
+    requires { length marks.now ≡ length days.now.pairs.now }
+    ensures { (k : ℕ) → result ≡ needed k marks.now days.now.pairs.now }
 {
     let mut fewests: u32 = 0;
-    for (pair, mark) in pairs.iter().zip(marks) {
+    for (pair, mark) in days.pairs.iter().zip(marks) {
         if *mark == 1 {
             fewests += pair.0 as u32;
         }

@@ -7,6 +7,7 @@ ghost use Rattle.records.specs.Bare.{span_of};
 ghost use Rattle.narrowing.specs.Support.{support_number, support_place, support_layer, askable, support_of, work_after};
 ghost use Rattle.narrowing.specs.declared.support.SupportFault.TheVariants.{Refused};
 
+use crate::days::Days;
 use crate::tables::Tables;
 use records::{NarrowingFault, Record, Window, check, copy_windows};
 use refusals::Fault;
@@ -77,30 +78,24 @@ impl Drop for Closed<'_> {
 
 impl Closed<'_> {
     // Whether there is a plan for the windows as they now are.
-    fn has_plan(&self, first: u16, pairs: &[(u16, u16)]) -> bool
-        requires pairs_len_bound { (length pairs.now ≤ 128) × (length self.now.windows.now ≤ 512) }
-        requires proper { Proper first pairs.now (map span_of self.now.windows.now) }
-        ensures yes { result ≡ true → (ts : List ℕ) × Plan first pairs.now (map span_of self.entry.now.windows.now) ts }
-        ensures no { (ts : List ℕ) → Plan first pairs.now (map span_of self.entry.now.windows.now) ts → result ≡ true }
+    fn has_plan(&self, days: &Days) -> bool
+        requires windows_len_bound { length self.now.windows.now ≤ 512 }
+        requires proper { Proper days.now.first days.now.pairs.now (map span_of self.now.windows.now) }
+        ensures yes { result ≡ true → (ts : List ℕ) × Plan days.now.first days.now.pairs.now (map span_of self.entry.now.windows.now) ts }
+        ensures no { (ts : List ℕ) → Plan days.now.first days.now.pairs.now (map span_of self.entry.now.windows.now) ts → result ≡ true }
     {
         let mut tables = Tables::blank();
-        tables.weigh(first, pairs, &*self.windows).is_ok()
+        tables.weigh(days, &*self.windows).is_ok()
     }
 }
 
 // Whether some plan gives the window at a place a day: one does if it is a day of the window, and there is a plan with the
 // window closed to it.
-fn possible(
-    first: u16,
-    pairs: &[(u16, u16)],
-    windows: &mut [Window],
-    place: usize,
-    day: u16,
-) -> bool
-    requires pairs_len_bound { (length pairs.now ≤ 128) × (length windows.old ≤ 512) }
-    requires proper { Proper first pairs.now (map span_of windows.old) }
+fn possible(days: &Days, windows: &mut [Window], place: usize, day: u16) -> bool
+    requires windows_len_bound { length windows.old ≤ 512 }
+    requires proper { Proper days.now.first days.now.pairs.now (map span_of windows.old) }
     requires place_in_bounds { place < length windows.old }
-    ensures answer { result ≡ supported first pairs.now (map span_of windows.old) place day }
+    ensures answer { result ≡ supported days.now.first days.now.pairs.now (map span_of windows.old) place day }
     ensures same { windows.new ≡ windows.old }
 {
     let old = windows[place];
@@ -116,7 +111,7 @@ fn possible(
         first: day,
         last: day,
     };
-    guard.has_plan(first, pairs)
+    guard.has_plan(days)
 }
 
 // Whether the place is one of the records, the day one of the days, and the working list long enough.
@@ -152,5 +147,6 @@ pub fn supports<R: Record>(
         return Err(SupportFault::NoSuchQuestion);
     }
     copy_windows(records, work);
-    Ok(possible(first, pairs, &mut work[..records.len()], place, day))
+    let days = Days { first, pairs };
+    Ok(possible(&days, &mut work[..records.len()], place, day))
 }

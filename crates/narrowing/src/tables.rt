@@ -5,6 +5,7 @@ ghost use Rattle.narrowing.specs.Counting.{Blank};
 ghost use Rattle.narrowing.specs.Weighing.{Weighed};
 
 use crate::counting::count_runs;
+use crate::days::Days;
 use crate::needs::needs_left;
 use crate::runs::{overfull, sum_mosts};
 use records::Record;
@@ -40,24 +41,19 @@ impl Tables {
     }
 
     // Fills the tables in, and says whether there is a plan.
-    pub(crate) fn weigh<R: Record>(
-        &mut self,
-        first: u16,
-        pairs: &[(u16, u16)],
-        records: &[R],
-    ) -> Result<(), Lack>
-        requires pairs_len_bound { (length pairs.now ≤ 128) × (length records.now ≤ 512) }
-        requires proper { Proper first pairs.now (map R.span records.now) }
+    pub(crate) fn weigh<R: Record>(&mut self, days: &Days, records: &[R]) -> Result<(), Lack>
+        requires records_len_bound { length records.now ≤ 512 }
+        requires proper { Proper days.now.first days.now.pairs.now (map R.span records.now) }
         requires blank { Blank self.old.held }
-        ensures { Weighed first pairs.now (map R.span records.now) self.new result }
+        ensures { Weighed days.now.first days.now.pairs.now (map R.span records.now) self.new result }
     {
-        count_runs(first, records, pairs.len(), &mut self.held);
-        sum_mosts(pairs, &mut self.before);
-        if let Some((begin, end)) = overfull(pairs, &self.held, &self.before) {
+        count_runs(days.first, records, days.pairs.len(), &mut self.held);
+        sum_mosts(days, &mut self.before);
+        if let Some((begin, end)) = overfull(days, &self.held, &self.before) {
             return Err(Lack::Room(begin, end));
         }
-        needs_left(pairs, &self.held, &mut self.left);
-        if self.left[pairs.len()] as usize > records.len() {
+        needs_left(days, &self.held, &mut self.left);
+        if self.left[days.pairs.len()] as usize > records.len() {
             return Err(Lack::Windows);
         }
         Ok(())

@@ -5,6 +5,7 @@ ghost use Rattle.narrowing.specs.Counting.{Blank, Summed};
 ghost use Rattle.narrowing.specs.Scanning.{NeedsMeet, EarliestOf, LatestOf};
 
 use crate::counting::row;
+use crate::days::Days;
 use records::limits::{CELLS, EDGES};
 
 // The runs with one last day, by their first days: how many windows each holds, and the mosts and the need of the days before
@@ -72,7 +73,7 @@ impl Runs<'_> {
 
 // The earliest begins and the latest ends of tight runs, of `windows` windows in all.
 pub(crate) fn tight_ends(
-    pairs: &[(u16, u16)],
+    days: &Days,
     windows: u32,
     table: &[u16; CELLS],
     before: &[u32; EDGES],
@@ -81,15 +82,15 @@ pub(crate) fn tight_ends(
     earliest: &mut [u16; EDGES],
     latest: &mut [u16; EDGES],
 )
-    requires pairs_len_bound { (length pairs.now ≤ 128) × (windows ≤ 512) }
-    requires summed { Summed pairs.now before.now }
-    requires needs_meet { NeedsMeet (length pairs.now) left.now right.now windows }
+    requires windows_bound { windows ≤ 512 }
+    requires summed { Summed days.now.pairs.now before.now }
+    requires needs_meet { NeedsMeet (length days.now.pairs.now) left.now right.now windows }
     requires blank { Blank latest.old }
-    ensures early { EarliestOf pairs.now table.now left.now right.now windows earliest.new }
-    ensures late { LatestOf pairs.now table.now left.now right.now windows latest.new }
+    ensures early { EarliestOf days.now.pairs.now table.now left.now right.now windows earliest.new }
+    ensures late { LatestOf days.now.pairs.now table.now left.now right.now windows latest.new }
 {
     // By the day, which has a place in five lists.
-    for v in 0..pairs.len() {
+    for v in 0..days.pairs.len() {
         let end = v as u16 + 1;
         let runs = Runs {
             held: row(table, v),

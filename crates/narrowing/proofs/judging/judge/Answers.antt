@@ -13,21 +13,21 @@ overflow_sub-result g c =
     let X = rw c.in-Err-Room.field-0-is at c.in-Err-Room.ensures in
     let R = X.named.is_run in
     let le : p ≤ b = omega (arith, R.ordered) in
-    let lt : b < length c.args.pairs.now = omega (arith, R.ends) in
-    omega (arith, X.summed p (omega arith), X.summed (b + 1) (omega arith), total_grows (most c.args.pairs.now) p (b + 1) (omega arith))
+    let lt : b < length c.args.days.now.pairs.now = omega (arith, R.ends) in
+    omega (arith, X.summed p (omega arith), X.summed (b + 1) (omega arith), total_grows (most c.args.days.now.pairs.now) p (b + 1) (omega arith))
 
 pub mark_shortage-requires-clause-counted : goal.mark_shortage-requires-clause-counted
 mark_shortage-requires-clause-counted g c =
     let X = rw c.in-Err-Windows.field-0-is at c.in-Err-Windows.ensures in
-    (c.args.first, map g.R.Record.span c.args.records.now, X.counted)
+    (c.args.days.now.first, map g.R.Record.span c.args.records.now, X.counted)
 
 pub count_meeting-requires : goal.count_meeting-requires
 count_meeting-requires g c =
-    let pairs = c.args.pairs.now in
+    let pairs = c.args.days.now.pairs.now in
     let ws = map g.R.Record.span c.args.records.now in
-    let F = front_ready c.args.first (length pairs) ws c.mark_shortage.new.marks (drop (length pairs) c.args.marks.now) c.mark_shortage.ensures.marks c.requires.pairs_len_bound.0 c.requires.proper.within in
+    let F = front_ready c.args.days.now.first (length pairs) ws c.mark_shortage.new.marks (drop (length pairs) c.args.marks.now) c.mark_shortage.ensures.marks c.args.days.now.few c.requires.proper.within in
     record {
-      records_len_bound = c.requires.pairs_len_bound.1;
+      records_len_bound = c.requires.records_len_bound;
       marks_len_bound = F.0;
       marks = F.1;
       within = F.2;
@@ -36,13 +36,13 @@ count_meeting-requires g c =
 pub returns-in-Ok : goal.returns-in-Ok
 returns-in-Ok g c =
     let ws = map g.R.Record.span c.args.records.now in
-    let J = judged_accepted c.args.first c.args.pairs.now ws c.requires.proper.within c.in-Ok.ensures.plan c.args.marks.now in
+    let J = judged_accepted c.args.days.now.first c.args.days.now.pairs.now ws c.requires.proper.within c.in-Ok.ensures.plan c.args.marks.now in
     record { answer = J.0; marks = J.1; tables = λ _. c.in-Ok.ensures }
 
 pub returns-in-Err-Room : goal.returns-in-Err-Room
 returns-in-Err-Room g c =
-    let k : ℕ = c.args.first in
-    let pairs = c.args.pairs.now in
+    let k : ℕ = c.args.days.now.first in
+    let pairs = c.args.days.now.pairs.now in
     let ws = map g.R.Record.span c.args.records.now in
     let marks = c.args.marks.now in
     let p : ℕ = c.in-Err-Room.begin in
@@ -56,8 +56,8 @@ returns-in-Err-Room g c =
 
 pub returns-in-Err-Windows : goal.returns-in-Err-Windows
 returns-in-Err-Windows g c =
-    let k : ℕ = c.args.first in
-    let pairs = c.args.pairs.now in
+    let k : ℕ = c.args.days.now.first in
+    let pairs = c.args.days.now.pairs.now in
     let ws = map g.R.Record.span c.args.records.now in
     let X = rw c.in-Err-Windows.field-0-is at c.in-Err-Windows.ensures in
     let J = judged_short k pairs ws X.counted.within X.roomy c.mark_shortage.new.marks c.args.marks.now c.count_meeting.result c.sum_needed.result

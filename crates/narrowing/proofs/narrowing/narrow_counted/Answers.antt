@@ -10,13 +10,13 @@ use Rattle.narrowing.proofs.Writes.{zeros}
 use Rattle.narrowing.proofs.Scanned.{lows_kept, ready, needs_within, found_shorter, found_narrowed}
 use Rattle.narrowing.proofs.narrowing.narrow_counted.Goals as goal
 
-pub needs_right-requires-clause-blank : goal.needs_right-requires-clause-blank
-needs_right-requires-clause-blank g c = zeros 129
+pub needs_right-requires : goal.needs_right-requires
+needs_right-requires g c = zeros 129
 
 pub tight_ends-requires-clause-needs_meet : goal.tight_ends-requires-clause-needs_meet
 tight_ends-requires-clause-needs_meet g c v h =
-    let k : ℕ = c.args.first in
-    let pairs : List Pair = c.args.pairs.now in
+    let k : ℕ = c.args.days.now.first in
+    let pairs : List Pair = c.args.days.now.pairs.now in
     let ws : List Window = map g.R.Record.span c.args.records.now in
     let M : ℕ → ℕ = tabled c.args.tables.now.left in
     let N : ℕ → ℕ = tabled c.needs_right.new.right in
@@ -28,8 +28,8 @@ tight_ends-requires-clause-blank g c = zeros 129
 
 pub put_windows-requires : goal.put_windows-requires
 put_windows-requires g c =
-    let k : ℕ = c.args.first in
-    let pairs : List Pair = c.args.pairs.now in
+    let k : ℕ = c.args.days.now.first in
+    let pairs : List Pair = c.args.days.now.pairs.now in
     let ws : List Window = map g.R.Record.span c.args.records.now in
     let M : ℕ → ℕ = tabled c.args.tables.now.left in
     let N : ℕ → ℕ = tabled c.needs_right.new.right in
@@ -39,14 +39,14 @@ put_windows-requires g c =
     let table : List ℕ = c.highs.new.table in
     let n = length-map c.args.records.now g.R.Record.span in
     let L : Lows (length pairs) early table = lows_kept (length pairs) early late c.lows.new.table table c.lows.ensures c.highs.ensures.above c.highs.ensures.below in record {
-      within = within_more k (length pairs) 128 ws c.requires.pairs_len_bound.0 c.requires.proper.within;
+      within = within_more k (length pairs) 128 ws c.args.days.now.few c.requires.proper.within;
       shorter = found_shorter k pairs ws M N early late table Y c.requires.planned.plan (c.tight_ends.ensures.early k ws c.requires.planned.counted n) (c.tight_ends.ensures.late k ws c.requires.planned.counted n) L c.highs.ensures.above;
     }
 
 pub returns : goal.returns
 returns g c =
-    let k : ℕ = c.args.first in
-    let pairs : List Pair = c.args.pairs.now in
+    let k : ℕ = c.args.days.now.first in
+    let pairs : List Pair = c.args.days.now.pairs.now in
     let ws : List Window = map g.R.Record.span c.args.records.now in
     let M : ℕ → ℕ = tabled c.args.tables.now.left in
     let N : ℕ → ℕ = tabled c.needs_right.new.right in

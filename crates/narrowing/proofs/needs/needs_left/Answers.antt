@@ -12,9 +12,9 @@ use Rattle.narrowing.proofs.needs.needs_left.Goals as goal
 pub loop-v-init : goal.loop-v-init
 loop-v-init c =
     let xs = c.args.left.now in
-    let d : ℕ = length c.args.pairs.now in
+    let d : ℕ = length c.args.days.now.pairs.now in
     let z : get_or (set xs 0 0) 0 0 ≡ 0 = get_or-set_same xs 0 0 0 (omega arith) in (
-      (λ k ws C. left_none k (fewest c.args.pairs.now) ws (λ v. get_or (set xs 0 0) v 0) (λ p. forced_none k d p ws C.within) z),
+      (λ k ws C. left_none k (fewest c.args.days.now.pairs.now) ws (λ v. get_or (set xs 0 0) v 0) (λ p. forced_none k d p ws C.within) z),
       λ j h. let e : j ≡ 0 = omega arith in rw e (omega (arith, z)),
     )
 
@@ -32,10 +32,10 @@ reach-requires c =
 pub loop-v-preserved : goal.loop-v-preserved
 loop-v-preserved c =
     let b : ℕ = c.loop-v.v in
-    let d : ℕ = length c.args.pairs.now in
+    let d : ℕ = length c.args.days.now.pairs.now in
     let xs = c.args.table.now in
     let ys = c.loop-v.left in
-    let ls : ℕ → ℕ = fewest c.args.pairs.now in
+    let ls : ℕ → ℕ = fewest c.args.days.now.pairs.now in
     let x : ℕ = c.reach.result in
     let r = c.reach.ensures in
     let n = c.row.ensures.long in

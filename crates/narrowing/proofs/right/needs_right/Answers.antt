@@ -12,11 +12,11 @@ use Rattle.narrowing.proofs.right.needs_right.Goals as goal
 pub loop-v-preserved : goal.loop-v-preserved
 loop-v-preserved c =
     let b : ℕ = c.loop-v.v - 1 in
-    let d : ℕ = length c.args.pairs.now in
+    let d : ℕ = length c.args.days.now.pairs.now in
     let xs = c.args.table.now in
     let ys : List ℕ = c.loop-v.right in
     let zs : List ℕ = c.lift.new.needs in
-    let ls : ℕ → ℕ = fewest c.args.pairs.now in
+    let ls : ℕ → ℕ = fewest c.args.days.now.pairs.now in
     let os : List ℕ = zs ++ drop (b + 1) ys in
     let x : ℕ = c.max.result in
     let N : ℕ → ℕ = tabled ys in
@@ -51,8 +51,8 @@ loop-v-preserved c =
 
 pub returns : goal.returns
 returns c k ws C =
-    let d : ℕ = length c.args.pairs.now in
-    let ls : ℕ → ℕ = fewest c.args.pairs.now in
+    let d : ℕ = length c.args.days.now.pairs.now in
+    let ls : ℕ → ℕ = fewest c.args.days.now.pairs.now in
     let z : c.loop-v.v ≡ 0 = omega arith in
     let N : ℕ → ℕ = tabled c.loop-v.right in
     let P : ℕ → Type 0 = λ b. RightFrom k d b ls ws N in

@@ -7,5 +7,5 @@ use Rattle.narrowing.proofs.right.needs_right.Given as goal
 -- the rows from v on are in
 abbrev pub invariant-loop-v : goal.invariant-loop-v
 invariant-loop-v l =
-    ((k : ℕ) (ws : List Window) → Counted k (length l.pairs) ws l.table → RightFrom k (length l.pairs) l.v (fewest l.pairs) ws (tabled l.right))
-    × ((j : ℕ) → j ≤ length l.pairs → get_or l.right j 0 + j * 65535 ≤ length l.pairs * 65535)
+    ((k : ℕ) (ws : List Window) → Counted k (length l.days.pairs.now) ws l.table → RightFrom k (length l.days.pairs.now) l.v (fewest l.days.pairs.now) ws (tabled l.right))
+    × ((j : ℕ) → j ≤ length l.days.pairs.now → get_or l.right j 0 + j * 65535 ≤ length l.days.pairs.now * 65535)

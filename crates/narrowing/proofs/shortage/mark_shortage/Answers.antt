@@ -20,7 +20,7 @@ loop-v-preserved-then-left-v c =
     let v : ℕ = c.loop-v.v in
     let u : ℕ = v - 1 in
     let marks = c.loop-v.marks in
-    let pairs = c.args.pairs.now in
+    let pairs = c.args.days.now.pairs.now in
     let top : v ≤ length pairs = c.loop-v.invariant.0 in
     let here : u < length marks = omega (arith, c.loop-v.auto.marks, c.fill.ensures.len, c.requires.marks_len) in
     let zero : get_or marks u 0 ≡ 0 = c.loop-v.invariant.2 u (omega arith) in (
@@ -42,9 +42,9 @@ loop-v-preserved-then-left-v c =
 pub find_run-requires : goal.find_run-requires
 find_run-requires c =
     let u : ℕ = c.loop-v.v - 1 in
-    let top : c.loop-v.v ≤ length c.args.pairs.now = c.loop-v.invariant.0 in
+    let top : c.loop-v.v ≤ length c.args.days.now.pairs.now = c.loop-v.invariant.0 in
     let n = c.row.ensures.long in
-    let m = front_length c.args.left.now u 129 (omega arith) (omega (arith, c.requires.pairs_len_bound)) in
+    let m = front_length c.args.left.now u 129 (omega arith) (omega arith) in
     record { row_len = n ∙ sym m }
 
 -- by whatever windows the table counts, some run attains the need
@@ -53,7 +53,7 @@ unreachable-requires c =
     let v : ℕ = c.loop-v.v in
     let u : ℕ = v - 1 in
     let left = c.args.left.now in
-    let top : v ≤ length c.args.pairs.now = c.loop-v.invariant.0 in
+    let top : v ≤ length c.args.days.now.pairs.now = c.loop-v.invariant.0 in
     let n = c.row.ensures.long in
     let e : suc u ≡ v = omega arith in
     let ws = c.requires.counted.1 in
@@ -75,7 +75,7 @@ loop-v-preserved c =
     let p : ℕ = c.in-Some.first in
     let marks = c.loop-v.marks in
     let left = c.args.left.now in
-    let pairs = c.args.pairs.now in
+    let pairs = c.args.days.now.pairs.now in
     let d : ℕ = length pairs in
     let top : v ≤ d = c.loop-v.invariant.0 in
     let n = c.row.ensures.long in
@@ -97,7 +97,7 @@ loop-v-preserved c =
 pub returns : goal.returns
 returns c =
     let marks = c.loop-v.marks in
-    let pairs = c.args.pairs.now in
+    let pairs = c.args.days.now.pairs.now in
     let left = c.args.left.now in
     record {
       marks = record { long = c.loop-v.auto.marks ∙ c.fill.ensures.len ∙ c.requires.marks_len; marked = c.loop-v.invariant.1 };

@@ -8,7 +8,7 @@ use Rattle.narrowing.proofs.shortage.sum_needed.Goals as goal
 
 pub loop-pair-preserved-then-mark-eq1 : goal.loop-pair-preserved-then-mark-eq1
 loop-pair-preserved-then-mark-eq1 c =
-    let pairs = c.args.pairs.now in
+    let pairs = c.args.days.now.pairs.now in
     let marks = c.args.marks.now in
     let v : ℕ = length c.loop-pair.yielded in
     let here = zip_turn pairs marks c.loop-pair.yielded c.into_iter-pair-iterator.result _ c.next.new.self _ (search rules) (search rules) c.loop-pair.yielded_by (c.in-Some.pair, c.in-Some.mark) c.in-Some.is c.next.ensures.steps in
@@ -26,7 +26,7 @@ loop-pair-preserved-then-mark-eq1 c =
 
 pub loop-pair-preserved : goal.loop-pair-preserved
 loop-pair-preserved c =
-    let pairs = c.args.pairs.now in
+    let pairs = c.args.days.now.pairs.now in
     let marks = c.args.marks.now in
     let v : ℕ = length c.loop-pair.yielded in
     let here = zip_turn pairs marks c.loop-pair.yielded c.into_iter-pair-iterator.result _ c.next.new.self _ (search rules) (search rules) c.loop-pair.yielded_by (c.in-Some.pair, c.in-Some.mark) c.in-Some.is c.next.ensures.steps in
@@ -42,7 +42,7 @@ loop-pair-preserved c =
 
 pub returns : goal.returns
 returns c k =
-    let pairs = c.args.pairs.now in
+    let pairs = c.args.days.now.pairs.now in
     let marks = c.args.marks.now in
     let all = zip_end pairs marks c.loop-pair.yielded c.into_iter-pair-iterator.result _ c.next.new.self _ (search rules) (search rules) c.loop-pair.yielded_by c.in-None.is c.next.ensures.steps in
     c.loop-pair.invariant.1 k ∙ ap (sum_over k marks (fewest pairs)) (omega (arith, all))

@@ -40,7 +40,7 @@ possible-requires g c =
     let size : length front ≡ n = sym (length-map front span_of) ∙ ap length spans ∙ long in
     let Q : List Window → Type 0 = Proper k pairs in
     record {
-      pairs_len_bound = (P.range.few_days, omega (arith, P.few_records));
+      windows_len_bound = omega (arith, P.few_records);
       proper = subst Q (sym spans) P.proper;
       place_in_bounds = omega arith;
     }

@@ -14,7 +14,7 @@ use Rattle.narrowing.proofs.tight.tight_ends.Goals as goal
 pub invariant_of-runs-clause-before_bound : goal.invariant_of-runs-clause-before_bound
 invariant_of-runs-clause-before_bound c p h =
     let b : ℕ = c.loop-v.v in
-    let us : ℕ → ℕ = most c.args.pairs.now in
+    let us : ℕ → ℕ = most c.args.days.now.pairs.now in
     let n = c.row.ensures.long in
     omega (arith, front_at c.args.before.now b p (omega arith), c.requires.summed p (omega arith), c.requires.summed (b + 1) (omega arith), total_grows us p (b + 1) (omega arith))
 
@@ -22,12 +22,12 @@ pub invariant_of-runs-clause-left_bound : goal.invariant_of-runs-clause-left_bou
 invariant_of-runs-clause-left_bound c p h =
     let b : ℕ = c.loop-v.v in
     let n = c.row.ensures.long in
-    omega (arith, front_at c.args.left.now b p (omega arith), c.requires.needs_meet p (omega arith), c.requires.pairs_len_bound)
+    omega (arith, front_at c.args.left.now b p (omega arith), c.requires.needs_meet p (omega arith))
 
 pub loop-v-preserved : goal.loop-v-preserved
 loop-v-preserved c =
     let b : ℕ = c.loop-v.v in
-    let ps = c.args.pairs.now in
+    let ps = c.args.days.now.pairs.now in
     let us : ℕ → ℕ = most ps in
     let ys = c.args.before.now in
     let zs = c.args.left.now in
