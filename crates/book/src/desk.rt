@@ -1,7 +1,8 @@
 use crate::mode::{Live, Trying};
 use state::State;
 
-// A calendar and a state on it. Its mode says whether it is a book or a trial.
+// A calendar and a state on it. Its mode says whether it is a book or a trial. It has no model of its own, since its value would
+// be a life, whose lit days are a function.
 #[derive(Drop)]
 pub struct Desk<C, M> {
     calendar: C,

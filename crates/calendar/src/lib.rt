@@ -14,6 +14,7 @@ pub mod week;
 pub use fault::CalendarFault;
 pub use layer::Closing;
 pub use list::Listed;
+pub use refusals::Fault;
 pub use week::Weekly;
 
 // The most pairs of a listed calendar, one for each day from 0 to 65,535.

@@ -16,11 +16,7 @@ fn alike(
     let mut bare = windows.to_vec(heap)?;
     let mut orders = Vec::new(heap);
     for each in windows {
-        orders.push(Order {
-            number: each.last,
-            asked: *each,
-            told: *each,
-        })?;
+        orders.push(Order::new(each.last, *each))?;
     }
     let mut marks = vec![in heap; 7u8; pairs.len()]?;
     let mut same = vec![in heap; 7u8; pairs.len()]?;

@@ -126,7 +126,8 @@ impl Problem {
             .all(|(day, mark)| *mark == u8::from(run.contains(&day)))
     }
 
-    // The windows that meet the marked days, and the sum of their fewests.
+    // The windows that meet the marked days, and the sum of their fewests. Not one with `inside`: the windows are asked something
+    // else, and the other half of each pair is summed.
     fn meeting(&self, marks: &[u8]) -> Counts {
         let windows = self.windows.iter().filter(|(first, last)| {
             (usize::from(*first)..=usize::from(*last)).any(|day| is_marked(marks, day))

@@ -6,7 +6,7 @@ ghost use Rattle.faults.specs.Faults.{check_number, number_of, place_of, counts_
 ghost use Rattle.faults.specs.declared.Cause.TheVariants.{Failed, Engine};
 
 use records::NarrowingFault;
-use refusals::Fault;
+pub use refusals::Fault;
 
 // The check that a call does not pass.
 #[derive(Clone, Copy, PartialEq, Eq, Debug)]

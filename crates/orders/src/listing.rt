@@ -35,7 +35,8 @@ pub fn begin_at(orders: &mut [Order], today: u16)
     }
 }
 
-// Writes the numbers of the orders whose day is today to the front of a list, and tells how many.
+// Writes the numbers of the orders whose day is today to the front of a list, and tells how many. The places are counted, as
+// these are fewer than the orders.
 pub fn write_leaving(orders: &[Order], days: &[u16], today: u16, list: &mut [u16]) -> usize
     requires { length orders.now ≤ length list.old }
     ensures many { result ≡ length (leaving today (map entry_of orders.now) days.now) }
@@ -51,7 +52,8 @@ pub fn write_leaving(orders: &[Order], days: &[u16], today: u16, list: &mut [u16
     count
 }
 
-// Moves the orders with another day to the front, and tells how many.
+// Moves the orders with another day to the front, and tells how many. They are counted, and moved within their own list, which
+// is why the one above is not this one.
 pub fn keep_staying(orders: &mut [Order], days: &[u16], today: u16) -> usize
     requires { length days.now ≡ length orders.old }
     ensures bound { result ≤ length orders.old }

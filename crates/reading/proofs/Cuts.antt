@@ -49,9 +49,6 @@ module _ (e : ℕ) (s : List ℕ) (p : ℕ) (inside : p ≤ length s) where
   pub piece_length : length (piece_at e s p) ≡ before e (drop p s)
   piece_length = length-take-le (before e (drop p s)) (drop p s) (before_within e (drop p s))
 
-  pub piece_end : p + length (piece_at e s p) ≤ length s
-  piece_end = omega (arith, piece_length, before_within e (drop p s), length-drop p s)
-
   past : drop (before e (drop p s) + 1) (drop p s) ≡ drop (p + (length (piece_at e s p) + 1)) s
   past =
       drop-drop (before e (drop p s) + 1) p s

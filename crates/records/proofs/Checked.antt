@@ -65,10 +65,3 @@ passed k pairs ws n e =
         ordered = λ v h. sound_all pairs (none_found (λ i. BadPair (k + i)) (bad_pair pairs) b.0) v;
       };
     }
-
--- the number of records is that of their windows
-pub many_refused : (ws : List Window) (next : Outcome) (n : ℕ) → length ws ≡ n → 512 < n → past (number_check ws) next ≡ Err TooManyRecords
-many_refused ws next n e h = rw (e, lt-leb n 512 h)
-
-pub few_pass : (ws : List Window) (next : Outcome) (n : ℕ) → length ws ≡ n → n ≤ 512 → past (number_check ws) next ≡ next
-few_pass ws next n e h = rw (e, le-leb n 512 h)

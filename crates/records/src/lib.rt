@@ -10,3 +10,4 @@ pub use checks::check;
 pub use fault::NarrowingFault;
 pub use record::Record;
 pub use record::bare::{Window, copy_windows};
+pub use refusals::Fault;

@@ -15,7 +15,7 @@ pub trait Record {
     fn window(&self) -> (u16, u16)
         ensures { result ≡ span self.now };
 
-    // Takes any window with first ≤ last; any other leaves the record as it is.
+    // Takes any window with first ≤ last; any other leaves the record as it is. First and last are two numbers, as in the rule.
     fn set_window(&mut self, first: u16, last: u16)
         ensures { self.new ≡ taking put self.old (first, last) };
 

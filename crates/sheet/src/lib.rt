@@ -7,3 +7,4 @@ mod pairing;
 pub mod reply;
 
 pub use fault::{Refusal, SheetFault};
+pub use refusals::Fault;

@@ -67,7 +67,7 @@ pub fn closing(line: &[u8], week: Weekly) -> Result<Closing<Weekly>, SheetFault>
     Ok(Closing::new(week, &runs))
 }
 
-// Reads the next three lines as those that open a sheet.
+// Reads the next three lines as those that open a sheet. Each missing line is told where it is missing, by its own number.
 pub fn open(lines: &mut Lines) -> Result<Closing<Weekly>, Refusal>
     ensures asked { map_ok asked_of result ≡ opened (lines_left lines.old) }
     ensures sheet { lines.new.sheet ≡ lines.old.sheet }

@@ -2,9 +2,10 @@ ghost use Rattle.std.specs.Prelude.{◌≡◌, ◌≤◌, length};
 ghost use Rattle.sheet.specs.Header.{in_pairs};
 
 use arrayvec::ArrayVec;
+use reading::words::LINE_BYTES;
 
 // Half as many as a line has bytes, and so more pairs than it has.
-const PAIRS: usize = 100;
+const PAIRS: usize = LINE_BYTES / 2;
 
 // The numbers two by two; a last one alone is left out.
 pub(crate) fn pairs_of(numbers: &[u16]) -> ArrayVec<(u16, u16), PAIRS>

@@ -24,9 +24,6 @@ run_long k d run = map_from_long _ k d
 
 -- The reply past the checks.
 module _ (c : Calendar) (L : Ledger) (k : Call) (marks : List ℕ) where
-  pub reply_faulty : (n : ℕ) → first_fault (checks L k) ≡ Some n → reply c L k marks ≡ refused n (subject L k)
-  reply_faulty n e = ap (past_checks c L k marks) e
-
   pub reply_weighed : (M : Ledger) → first_fault (checks L k) ≡ None → weighed L k ≡ Some M
       → reply c L k marks ≡ settled k (subject L k) L.today marks (told c L k) (weigh c M marks)
   reply_weighed M e w = ap (past_checks c L k marks) e ∙ ap (past_weighing c L k marks) w

@@ -6,25 +6,6 @@ use Rattle.std.proofs.lemmas.Bool.{cases_lt, cases_eq, le-leb, lt-leb, lt-ltb, l
 use Rattle.ledger.specs.Calls.{switch}
 use Rattle.state.specs.Model.{lit_by}
 
--- Two days of the horizon have different slots.
-pub lit_set : (k d : ℕ) (b : Bool) (fs : List Bool) → k ≤ d → d < k + 56 → length fs ≡ 56 → lit_by k (set fs (d % 56) b) ≡ switch d b (lit_by k fs)
-lit_set k d b fs h i n = fun_ext at
-  where
-    at : (t : ℕ) → lit_by k (set fs (d % 56) b) t ≡ switch d b (lit_by k fs) t
-    at t =
-        elim (cases_eq t d) [
-          | inl e ↦ rw (e, le-leb k d h, lt-ltb d (k + 56) i, eq-eqb d d refl, get_or-set_same fs (d % 56) b false (omega arith))
-          | inr e ↦ rw (ne_eqb t d e)
-              (elim (cases_lt t k) [
-                | inl j ↦ rw (lt-leb k t j)
-                | inr j ↦
-                    elim (cases_lt t (k + 56)) [
-                      | inl l ↦ rw (le-leb k t j, lt-ltb t (k + 56) l) (get_or-set_other fs (d % 56) (t % 56) b false (λ x. omega arith))
-                      | inr l ↦ rw (le-leb k t j, le-ltb t (k + 56) l)
-                    ]
-              ])
-        ]
-
 -- The day turns: its slot is dark for the day that enters the horizon.
 pub lit_turn : (k : ℕ) (fs : List Bool) → length fs ≡ 56 → lit_by (suc k) (set fs (k % 56) false) ≡ switch k false (lit_by k fs)
 lit_turn k fs n = fun_ext at

@@ -1,4 +1,4 @@
-// The calls of a book, and those of a trial.
+// The calls of a book, and those of a trial. Those that change the mode write the desk out: it is of another type then.
 ghost use Rattle.std.specs.Prelude.{◌≡◌, length, None};
 ghost use Rattle.ledger.specs.Calls.{Call};
 ghost use Rattle.ledger.specs.Lives.{opened};

@@ -1,4 +1,4 @@
-// Orders entered, changed, removed and let out.
+// Orders entered, changed, removed and let out. What is held and what is told are two clauses each, as callers use one of them.
 ghost use Rattle.std.specs.Prelude.{◌≡◌, length, is_some, ◌&&◌, if◌then◌else◌, Some, None};
 ghost use Rattle.std.specs.List.{insert, remove};
 ghost use Rattle.records.specs.Bare.{span_of};

@@ -46,6 +46,7 @@ impl From<(u16, u16)> for Window {
 pub fn copy_windows<R: Record>(records: &[R], windows: &mut [Window])
     ensures { windows.new ≡ copied (map R.span records.now) windows.old }
 {
+    // Beside each other and not zipped: of what is written through a zip with iter_mut a proof knows only the length.
     let mut rest = records.iter();
     for window in windows.iter_mut() {
         let Some(each) = rest.next() else {
