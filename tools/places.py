@@ -13,7 +13,7 @@ import sys
 
 POINTS = {
     1: ('results, flags and numbers by hand', [
-        ('own enum', r'^\s*(pub )?enum \w+'),
+        ('own enum', r'^\s*(pub(\(crate\))? )?enum \w+'),
         ('result taken apart and made again', r'^\s*(Ok\((\w+|\(\))\) => (Ok\(|match)|Err\(\w+\) => (Err\(|unreachable|None)|None => (unreachable|None|Ok\(|return)|Some\(\w+\) => (Ok|Err|Some)\()'),
         ('result thrown away', r'^\s*let _ = '),
         ('no told by a number', r'^\s*(0|end)$'),
@@ -22,7 +22,7 @@ POINTS = {
         ('range loop', r'\bfor \w+ in \(?[\w(].*\.\.'),
         ('search loop', r'\bfor \(\w+, \w+\) in .*enumerate\(\)'),
         ('while', r'^\s*while '),
-        ('count by hand', r'^\s*\w+ \+= 1;'),
+        ('count by hand', r'^\s*[\w.]+ \+= 1;'),
     ]),
     4: ('conversions, copies and printing by hand', [
         ('cast', r' as (u8|u16|u32|u64|usize)\b'),
@@ -31,8 +31,8 @@ POINTS = {
         ('larger by hand', r'if \w+(\[\w+\])? [<>] \w+(\[\w+\])? \{ '),
     ]),
     6: ('buffers with a length beside, parallel lists, hand searches', [
-        ('array field', r'^\s*(pub )?\w+: \[.*; \w+\],'),
-        ('length beside', r'^\s*(len|count): usize,'),
+        ('array field', r'^\s*(pub(\(crate\))? )?\w+: \[[^;]*[A-Za-z(][^;]*; \w+\],$'),
+        ('length beside', r'^\s*(pub )?(len|count): usize,'),
         ('slice up to a length', r'\[0?\.\.(self\.)?(len|count|\w+\.len\(\))\]'),
     ]),
     7: ('a switch on which step to run', [
@@ -65,10 +65,10 @@ def signatures(text):
         while depth:
             depth += {'(': 1, ')': -1}.get(text[i], 0)
             i += 1
-        params = re.findall(r'(\w+): ((?:&\S* ?)?[^,()]*(?:\([^()]*\)[^,()]*)*)', text[m.end():i - 1])
-        rest = re.split(r'\n\s*\{\n|;\n|\{\}\n', text[i:], maxsplit=1)[0]
+        params = re.findall(r'(\w+): ([^,()]*(?:\([^()]*\)[^,()]*)*)', text[m.end():i - 1])
+        rest = re.split(r'\n\s*\{\n| \{\n|;\n|\{\}\n', text[i:], maxsplit=1)[0]
         clauses = re.findall(r'(?:requires|ensures)\s*\w*\s*\{ (.*) \}', rest)
-        yield m.group(1), [(n, t.strip()) for n, t in params], clauses
+        yield m.group(1), [(n, ' '.join(t.split())) for n, t in params], clauses
 
 
 def main():

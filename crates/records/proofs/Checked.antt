@@ -1,6 +1,6 @@
 -- The checks one after the other, and what holds where all are passed.
-use Rattle.std.proofs.Common.{◌≡◌, ℕ, ◌+◌, ◌-◌, ◌<◌, ◌≤◌, Bool, true, false, cond, ◌&&◌, not, ltb, leb, List, length, Some, None, Ok, Err, Option, refl, arith}
-use Rattle.std.proofs.lemmas.Bool.{and_parts, leb-true, ltb-true, le-leb, lt-leb}
+use Rattle.std.proofs.Common.{◌≡◌, ℕ, ◌+◌, ◌-◌, ◌≤◌, Bool, true, false, cond, ◌&&◌, not, ltb, leb, List, length, Some, None, Ok, Err, Option, refl, arith}
+use Rattle.std.proofs.lemmas.Bool.{and_parts, leb-true, ltb-true}
 use Rattle.plans.specs.Plans.{Window, Pair}
 use Rattle.plans.specs.Needs.{Proper}
 use Rattle.records.specs.declared.fault.NarrowingFault.{NarrowingFault}
