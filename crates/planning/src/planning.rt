@@ -1,13 +1,26 @@
-ghost use Rattle.std.specs.Prelude.{◌≡◌, map};
+ghost use Rattle.std.specs.Prelude.{◌≡◌, ◌≤◌, map, length};
+ghost use Rattle.records.specs.Bare.{bare};
 ghost use Rattle.planning.specs.Planned.{planned_of, PlannedMeans};
 
 use crate::closing::plan_windows;
 use arrayvec::ArrayVec;
 use records::limits::MOST_RECORDS;
-use records::{NarrowingFault, Record, Window, check, copy_windows};
+use records::{NarrowingFault, Record, Window, check};
 
 // A day for each record.
 pub type Days = ArrayVec<u16, MOST_RECORDS>;
+
+// The windows of the records.
+fn windows_of<R: Record>(records: &[R]) -> ArrayVec<Window, MOST_RECORDS>
+    requires { length records.now ≤ 512 }
+    ensures { result.items ≡ map bare (map R.span records.now) }
+{
+    let mut windows = ArrayVec::new();
+    for each in records {
+        windows.push(each.window().into());
+    }
+    windows
+}
 
 // The first plan: a day for each record; none where there is no plan.
 pub fn first_plan<R: Record>(
@@ -19,7 +32,6 @@ pub fn first_plan<R: Record>(
     ensures means { PlannedMeans first pairs.now (map R.span records.now) result }
 {
     check(first, pairs, records, pairs.len())?;
-    let mut windows = [Window { first: 0, last: 0 }; MOST_RECORDS];
-    copy_windows(records, &mut windows);
-    Ok(plan_windows(first, pairs, &mut windows[..records.len()]))
+    let mut windows = windows_of(records);
+    Ok(plan_windows(first, pairs, windows.as_mut_slice()))
 }

@@ -35,3 +35,8 @@ front_spans ws work xs n e h is = ap (λ l. map span_of (take n l)) is ∙ go ws
     go (w ∷ ws) work zero e h = absurd (omega arith)
     go (w ∷ ws) [] (suc n) e h = absurd (omega arith)
     go (w ∷ ws) (x ∷ work) (suc n) e h = ap (λ l. w ∷ l) (go ws work n (omega arith) (omega arith))
+
+-- bare windows tell what they were made of
+pub spans_bare : (ws : List (ℕ × ℕ)) → map span_of (map bare ws) ≡ ws
+spans_bare [] = refl
+spans_bare (w ∷ ws) = ap (λ l. w ∷ l) (spans_bare ws)

@@ -5,7 +5,7 @@ ghost use Rattle.records.specs.Bare.{span_of, put_in, bare, copied};
 use crate::record::Record;
 
 // A bare window: it has its first and its last day and the days between, and nothing else.
-#[derive(Clone, Copy, PartialEq, Eq, Debug)]
+#[derive(Clone, Copy, PartialEq, Eq, Debug, Default)]
 pub struct Window {
     pub first: u16,
     pub last: u16,
