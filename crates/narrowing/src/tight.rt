@@ -11,6 +11,7 @@ use records::limits::EDGES;
 
 // The runs with one last day, by their first days: how many windows each holds, and the mosts and the need of the days before
 // it. The mosts up to the last day are `top` in all, and `rest` are the windows that the days after it do not need.
+// Three lists of one length, each a part of a table: side by side, so that the loop over them is one of single numbers.
 #[derive(Clone, Copy)]
 struct Runs<'a> {
     held: &'a [u16],
