@@ -1,6 +1,6 @@
 -- Windows with one place closed to a day, and lists that are written over.
-use Rattle.std.proofs.Common.{◌≡◌, ℕ, zero, suc, ◌+◌, ◌-◌, ◌<◌, ◌≤◌, Bool, true, false, ◌&&◌, ltb, leb, List, [], ◌∷◌, ◌++◌, map, length, get_or, take, drop, set, Ok, Err, sym, ap, ◌∙◌, subst, inl, inr, arith}
-use Rattle.std.proofs.lemmas.List.{set-append_right, map_more, length-map, length-take-le, drop_more, append_assoc, set-set, set-get_or, map-set, get_or-map}
+use Rattle.std.proofs.Common.{◌≡◌, ℕ, zero, suc, ◌+◌, ◌<◌, ◌≤◌, Bool, true, false, ◌&&◌, ltb, leb, List, [], ◌∷◌, map, length, get_or, set, Ok, Err, sym, ap, ◌∙◌, subst, inl, inr, arith}
+use Rattle.std.proofs.lemmas.List.{length-map, set-set, set-get_or, map-set, get_or-map}
 use Rattle.std.proofs.lemmas.Bool.{leb-true, cases_Bool, both_ways, ltb-true, and_parts}
 use Rattle.plans.specs.Plans.{Window, Pair, Plan}
 use Rattle.plans.specs.Needs.{Within, Proper}
@@ -11,20 +11,6 @@ use Rattle.records.specs.Bare.{span_of, bare}
 use Rattle.narrowing.specs.declared.support.SupportFault.TheVariants.{NoSuchQuestion}
 use Rattle.records.specs.Checks.{checked}
 use Rattle.narrowing.specs.Support.{askable, support_of}
-
--- one element more, copied over the front
-pub copy_more : {X Y : Type 0} (f : X → Y) (xs : List X) (ys : List Y) (i : ℕ) (d : X) → i < length xs → length xs ≤ length ys
-    → set (map f (take i xs) ++ drop i ys) i (f (get_or xs i d)) ≡ map f (take (i + 1) xs) ++ drop (i + 1) ys
-copy_more {X} {Y} f xs ys i d h l =
-    let y : Y = f (get_or xs i d) in
-    let n : length (map f (take i xs)) ≡ i = length-map (take i xs) f ∙ length-take-le i xs (omega arith) in
-    let z : i - i ≡ 0 = omega arith in
-    let e : drop i ys ≡ get_or ys i y ∷ drop (i + 1) ys = drop_more ys i y (omega arith) in
-    set-append_right (map f (take i xs)) (drop i ys) i i y n (omega arith)
-    ∙ ap (λ j. map f (take i xs) ++ set (drop i ys) j y) z
-    ∙ ap (λ l. map f (take i xs) ++ set l 0 y) e
-    ∙ sym (append_assoc (map f (take i xs)) (y ∷ []) (drop (i + 1) ys))
-    ∙ ap (λ l. l ++ drop (i + 1) ys) (sym (map_more f xs i d h))
 
 -- what stood at a place, written back
 pub put_back : {X : Type 0} (xs : List X) (i : ℕ) (x d : X) → set (set xs i x) i (get_or xs i d) ≡ xs

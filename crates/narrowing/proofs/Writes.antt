@@ -1,5 +1,5 @@
 -- Loops that write a list from one end to the other.
-use Rattle.std.proofs.Common.{◌≡◌, ℕ, zero, suc, ◌+◌, ◌*◌, ◌<◌, ◌≤◌, List, length, get_or, drop, set, replicate, sum, sym, refl, ap, ◌∙◌, inl, inr, suc-mul, add-one, arith}
+use Rattle.std.proofs.Common.{◌≡◌, ℕ, zero, suc, ◌+◌, ◌*◌, ◌<◌, ◌≤◌, List, length, get_or, drop, set, replicate, sum, sym, refl, ap, ◌∙◌, inl, inr, arith}
 use Rattle.std.proofs.lemmas.Bool.{cases_eq}
 use Rattle.std.proofs.lemmas.List.{get_or-set_same, get_or-set_other}
 use Rattle.std.proofs.lemmas.List.Sums.{sum_by-drop_more}
@@ -17,15 +17,6 @@ set_down xs old f n p i x e h is low high = (
   ]),
 )
 
--- and one that goes up
-pub set_up : (xs : List ℕ) (f : ℕ → ℕ) (i x : ℕ) → i < length xs → x ≡ f i
-    → ((j : ℕ) → j < i → get_or xs j 0 ≡ f j) → (j : ℕ) → j < suc i → get_or (set xs i x) j 0 ≡ f j
-set_up xs f i x h is low j lt =
-    elim (cases_eq j i) [
-      | inl q ↦ ap (λ m. get_or (set xs i x) m 0) q ∙ get_or-set_same xs i x 0 h ∙ is ∙ ap f (sym q)
-      | inr ne ↦ get_or-set_other xs i j x 0 ne ∙ low j (omega arith)
-    ]
-
 pub sum_drop : (xs : List ℕ) (p i : ℕ) → p ≡ suc i → i < length xs → sum (drop i xs) ≡ get_or xs i 0 + sum (drop p xs)
 sum_drop xs p i e h =
     let f : i + 1 ≡ p = omega arith in
@@ -41,21 +32,3 @@ zeros (suc n) (suc i) = zeros n i
 pub record Sums (f : ℕ → ℕ) (m v : ℕ) (xs : List ℕ) : Type 0 where
   pub small : (j : ℕ) → j ≤ v → get_or xs j 0 ≤ j * m
   pub sums : (j : ℕ) → j ≤ v → get_or xs j 0 ≡ total f j
-
-pub sums_none : (f : ℕ → ℕ) (m : ℕ) (xs : List ℕ) → 0 < length xs → Sums f m 0 (set xs 0 0)
-sums_none f m xs h =
-    let z : get_or (set xs 0 0) 0 0 ≡ 0 = get_or-set_same xs 0 0 0 h in
-    record { small = λ j l. let e : j ≡ 0 = omega arith in rw e (omega (arith, z)); sums = λ j l. let e : j ≡ 0 = omega arith in rw e z }
-
-pub sums_more : (f : ℕ → ℕ) (m v : ℕ) (xs : List ℕ) → v + 1 < length xs → f v ≤ m → Sums f m v xs → Sums f m (v + 1) (set xs (v + 1) (get_or xs v 0 + f v))
-sums_more f m v xs h le S =
-    let x : ℕ = get_or xs v 0 + f v in
-    let is : x ≡ total f (v + 1) = ap (λ n. n + f v) (S.sums v (omega arith)) ∙ ap (total f) (sym (add-one v)) in
-    let more : (v + 1) * m ≡ v * m + m = ap (λ n. n * m) (add-one v) ∙ suc-mul v m in
-    record {
-      small = λ j l. elim (cases_eq j (v + 1)) [
-        | inl e ↦ rw e (omega (arith, get_or-set_same xs (v + 1) x 0 h, S.small v (omega arith), more))
-        | inr ne ↦ omega (arith, get_or-set_other xs (v + 1) j x 0 ne, S.small j (omega arith))
-      ];
-      sums = λ j l. set_up xs (total f) (v + 1) x h is (λ i k. S.sums i (omega arith)) j (omega arith);
-    }

@@ -8,9 +8,8 @@ use records::Record;
 use records::limits::{CELLS, MOST_DAYS};
 
 // The row of a last day, as far as the run of that day alone.
-pub(crate) fn row(table: &[u16], last: usize) -> &[u16]
-    requires table_len { length table.now ≡ 16384 }
-    requires last_bound { last < 128 }
+pub(crate) fn row(table: &[u16; CELLS], last: usize) -> &[u16]
+    requires { last < 128 }
     ensures long { length result.now ≡ last + 1 }
     ensures cells { (p : ℕ) → p ≤ last → slice_index result.now p ≡ slice_index table.now (last * 128 + p) }
 {

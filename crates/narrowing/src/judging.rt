@@ -30,6 +30,7 @@ pub(crate) fn judge<R: Record>(
     ensures tables { result ≡ Ok tt → Planned days.now.first days.now.pairs.now (map R.span records.now) tables.new }
 {
     let count = days.pairs.len();
+    // A match: two of its arms write marks.
     match tables.weigh(days, records) {
         Ok(()) => Ok(()),
         Err(Lack::Room(begin, end)) => {

@@ -1,5 +1,6 @@
 // Records with windows on a range of days: the verdict whether some plan gives each of them a day, the narrowing of their
 // windows to the days that plans give them, and the question whether a plan gives one of them a certain day.
+// A cast that widens is written `as`: the prover shows that none loses anything, and sums and places read shorter.
 #![tactic(auto)]
 
 mod counting;

@@ -56,9 +56,7 @@ fn narrow_counted<R: Record>(days: &Days, tables: &Tables, records: &mut [R])
     tight_ends(
         days,
         records.len() as u32,
-        &tables.held,
-        &tables.before,
-        &tables.left,
+        tables,
         &right,
         &mut earliest,
         &mut latest,

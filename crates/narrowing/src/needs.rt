@@ -20,6 +20,7 @@ fn reach(row: &[u16], needs: &[u32], start: u32) -> u32
 }
 
 // What the days before each day need: the day's fewest more, or what a run that ends there holds.
+// From the left each need is read off earlier ones, from the right a row lifts all before it: two loops.
 pub(crate) fn needs_left(days: &Days, table: &[u16; CELLS], left: &mut [u32; EDGES])
     ensures needs { NeedsOf days.now.pairs.now table.now left.new }
     ensures small { (v : ℕ) → v ≤ length days.now.pairs.now → slice_index left.new v ≤ v * 65535 }

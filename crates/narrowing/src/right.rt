@@ -13,13 +13,14 @@ fn lift(row: &[u16], after: u32, needs: &mut [u32])
     requires after_bound { after < 2147483648 }
     ensures { (p : ℕ) → p < length row.now → slice_index needs.new p ≡ max (slice_index needs.old p) (slice_index row.now p + after) }
 {
-    // The row by index, and no zip: of what is written through an adapter of iter_mut a proof knows only the length.
+    // The row by index: of what is written through a zip with iter_mut a proof knows only the length.
     for (p, need) in needs.iter_mut().enumerate() {
         *need = (*need).max(row[p] as u32 + after);
     }
 }
 
 // What each day and the days after it need: its fewest more, or what a run that begins there holds.
+// From the left each need is read off earlier ones, from the right a row lifts all before it: two loops.
 pub(crate) fn needs_right(days: &Days, table: &[u16; CELLS], right: &mut [u32; EDGES])
     requires { Blank right.old }
     ensures { RightNeedsOf days.now.pairs.now table.now right.new }

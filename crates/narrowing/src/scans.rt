@@ -13,7 +13,7 @@ fn step<F: Fn(u8) -> bool>(day: u8, found: &mut [u8], row: &mut [u8], takes: F)
     ensures found { (i : ℕ) → i < length found.old → Stepped (F.post takes) day (slice_index found.old i) (slice_index found.new i) }
     ensures row { (i : ℕ) → i < length found.old → slice_index row.new i ≡ slice_index found.new i }
 {
-    // The row by index, and no zip: of what is written through an adapter of iter_mut a proof knows only the length.
+    // The row by index: of what is written through a zip with iter_mut a proof knows only the length.
     for (i, each) in found.iter_mut().enumerate() {
         *each = if takes(*each) { day } else { *each };
         row[i] = *each;
@@ -48,6 +48,7 @@ pub(crate) fn highs(days: usize, latest: &[u16; EDGES], table: &mut [u8; CELLS])
     ensures below { (a b : ℕ) → a < b → b < days → slice_index table.new (b * 128 + a) ≡ slice_index table.old (b * 128 + a) }
 {
     let mut high = [0u8; MOST_DAYS];
+    // By the day, from the last one back: each row takes up what those of the later days found.
     for a in (0..days).rev() {
         high[a] = a as u8;
         let late = latest[a + 1];

@@ -42,10 +42,7 @@ pub(crate) fn mark_shortage(
             marks[day] = 1;
             v = day;
         } else {
-            match find_run(row(table, day), &left[..day + 1], left[v]) {
-                Some(first) => v = first,
-                None => unreachable!(),
-            }
+            v = find_run(row(table, day), &left[..day + 1], left[v]).unwrap();
         }
     }
 }

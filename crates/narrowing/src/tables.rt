@@ -42,6 +42,7 @@ impl Tables {
 
     // Fills the tables in, and says whether there is a plan.
     pub(crate) fn weigh<R: Record>(&mut self, days: &Days, records: &[R]) -> Result<(), Lack>
+        // The records are a slice, which the narrowing writes later: their bound and that they are proper stay clauses.
         requires records_len_bound { length records.now ≤ 512 }
         requires proper { Proper days.now.first days.now.pairs.now (map R.span records.now) }
         requires blank { Blank self.old.held }

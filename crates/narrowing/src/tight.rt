@@ -6,10 +6,12 @@ ghost use Rattle.narrowing.specs.Scanning.{NeedsMeet, EarliestOf, LatestOf};
 
 use crate::counting::row;
 use crate::days::Days;
-use records::limits::{CELLS, EDGES};
+use crate::tables::Tables;
+use records::limits::EDGES;
 
 // The runs with one last day, by their first days: how many windows each holds, and the mosts and the need of the days before
 // it. The mosts up to the last day are `top` in all, and `rest` are the windows that the days after it do not need.
+// Three lists of one length, each a part of a table: side by side, so that the loop over them is one of single numbers.
 #[derive(Clone, Copy)]
 struct Runs<'a> {
     held: &'a [u16],
@@ -75,28 +77,26 @@ impl Runs<'_> {
 pub(crate) fn tight_ends(
     days: &Days,
     windows: u32,
-    table: &[u16; CELLS],
-    before: &[u32; EDGES],
-    left: &[u32; EDGES],
+    tables: &Tables,
     right: &[u32; EDGES],
     earliest: &mut [u16; EDGES],
     latest: &mut [u16; EDGES],
 )
     requires windows_bound { windows ≤ 512 }
-    requires summed { Summed days.now.pairs.now before.now }
-    requires needs_meet { NeedsMeet (length days.now.pairs.now) left.now right.now windows }
+    requires summed { Summed days.now.pairs.now tables.now.before }
+    requires needs_meet { NeedsMeet (length days.now.pairs.now) tables.now.left right.now windows }
     requires blank { Blank latest.old }
-    ensures early { EarliestOf days.now.pairs.now table.now left.now right.now windows earliest.new }
-    ensures late { LatestOf days.now.pairs.now table.now left.now right.now windows latest.new }
+    ensures early { EarliestOf days.now.pairs.now tables.now.held tables.now.left right.now windows earliest.new }
+    ensures late { LatestOf days.now.pairs.now tables.now.held tables.now.left right.now windows latest.new }
 {
     // By the day, which has a place in five lists.
     for v in 0..days.pairs.len() {
         let end = v as u16 + 1;
         let runs = Runs {
-            held: row(table, v),
-            before: &before[..v + 1],
-            left: &left[..v + 1],
-            top: before[v + 1],
+            held: row(&tables.held, v),
+            before: &tables.before[..v + 1],
+            left: &tables.left[..v + 1],
+            top: tables.before[v + 1],
             rest: windows - right[v + 1],
         };
         earliest[v + 1] = runs

@@ -1,6 +1,7 @@
 use Rattle.std.proofs.Common.{◌≡◌, ℕ, suc, ◌+◌, ◌-◌, ◌<◌, ◌≤◌, Bool, length, get_or, set, sym, ap, ◌∙◌, inl, inr, arith}
 use Rattle.std.proofs.lemmas.List.{get_or-set_same, get_or-set_other}
-use Rattle.std.proofs.lemmas.Bool.{cases_eq}
+use Rattle.std.proofs.lemmas.Bool.{cases_eq, some_since}
+use Rattle.std.proofs.lemmas.Option.{MatchOption-at_some}
 use Rattle.plans.specs.Sets.{in_set}
 use Rattle.plans.specs.Needs.{forced}
 use Rattle.narrowing.specs.Counting.{tabled}
@@ -48,8 +49,8 @@ find_run-requires c =
     record { row_len = n ∙ sym m }
 
 -- by whatever windows the table counts, some run attains the need
-pub unreachable-requires : goal.unreachable-requires
-unreachable-requires c =
+pub unwrap-v-requires : goal.unwrap-v-requires
+unwrap-v-requires c =
     let v : ℕ = c.loop-v.v in
     let u : ℕ = v - 1 in
     let left = c.args.left.now in
@@ -61,25 +62,25 @@ unreachable-requires c =
     let C = c.requires.counted.2 in
     let L = c.requires.needs_of k ws C in
     let f : tabled left (suc u) ≡ get_or left v 0 = ap (tabled left) e in
-    elim (L.attained u (omega arith)) [
+    some_since c.find_run.result _ _ c.find_run.ensures (λ none. elim (L.attained u (omega arith)) [
       | inl x ↦ c.if-left-v.false (sym f ∙ x)
       | inr x ↦
           let q : ℕ = x.0 in
-          c.in-None.ensures q (omega (arith, x.1)) (omega (arith, f, x.2, c.row.ensures.cells q x.1, C.cells u (omega arith) q x.1, front_at left u q x.1))
-    ]
+          none q (omega (arith, x.1)) (omega (arith, f, x.2, c.row.ensures.cells q x.1, C.cells u (omega arith) q x.1, front_at left u q x.1))
+    ])
 
 pub loop-v-preserved : goal.loop-v-preserved
 loop-v-preserved c =
     let v : ℕ = c.loop-v.v in
     let u : ℕ = v - 1 in
-    let p : ℕ = c.in-Some.first in
+    let p : ℕ = c.unwrap-v.result in
     let marks = c.loop-v.marks in
     let left = c.args.left.now in
     let pairs = c.args.days.now.pairs.now in
     let d : ℕ = length pairs in
     let top : v ≤ d = c.loop-v.invariant.0 in
     let n = c.row.ensures.long in
-    let r = c.in-Some.ensures in
+    let r = MatchOption-at_some _ _ p c.unwrap-v.ensures c.find_run.ensures in
     let le : p ≤ u = omega (arith, r.0) in (
       omega arith,
       c.loop-v.invariant.1,

@@ -16,21 +16,21 @@ invariant_of-runs-clause-before_bound c p h =
     let b : ℕ = c.loop-v.v in
     let us : ℕ → ℕ = most c.args.days.now.pairs.now in
     let n = c.row.ensures.long in
-    omega (arith, front_at c.args.before.now b p (omega arith), c.requires.summed p (omega arith), c.requires.summed (b + 1) (omega arith), total_grows us p (b + 1) (omega arith))
+    omega (arith, front_at c.args.tables.now.before b p (omega arith), c.requires.summed p (omega arith), c.requires.summed (b + 1) (omega arith), total_grows us p (b + 1) (omega arith))
 
 pub invariant_of-runs-clause-left_bound : goal.invariant_of-runs-clause-left_bound
 invariant_of-runs-clause-left_bound c p h =
     let b : ℕ = c.loop-v.v in
     let n = c.row.ensures.long in
-    omega (arith, front_at c.args.left.now b p (omega arith), c.requires.needs_meet p (omega arith))
+    omega (arith, front_at c.args.tables.now.left b p (omega arith), c.requires.needs_meet p (omega arith))
 
 pub loop-v-preserved : goal.loop-v-preserved
 loop-v-preserved c =
     let b : ℕ = c.loop-v.v in
     let ps = c.args.days.now.pairs.now in
     let us : ℕ → ℕ = most ps in
-    let ys = c.args.before.now in
-    let zs = c.args.left.now in
+    let ys = c.args.tables.now.before in
+    let zs = c.args.tables.now.left in
     let rs = c.args.right.now in
     let M : ℕ → ℕ = tabled zs in
     let N : ℕ → ℕ = tabled rs in
@@ -57,7 +57,7 @@ loop-v-preserved c =
     over_low ls new b p nl h ∙ c.mark_and_find.ensures.marks p (omega arith) ∙ ap (λ e. cond (t p) e (get_or (take (b + 1) ls) p 0)) (add-one b)
     ∙ ap (cond (t p) (suc b)) (front_at ls b p h) in
     let kept : (p : ℕ) → b < p → l p ≡ tabled ls p = λ p h. over_high ls new b p nl h in
-    let more : (k : ℕ) (ws : List Window) → Counted k (length ps) ws c.args.table.now → length ws ≡ c.args.windows
+    let more : (k : ℕ) (ws : List Window) → Counted k (length ps) ws c.args.tables.now.held → length ws ≡ c.args.windows
     → EarlyTo k ps ws M N (suc b) m × LateTo k ps ws M N (suc b) l = λ k ws C w.
     let is : (p : ℕ) → p ≤ b → (t p ≡ true → Tight k ps ws M N p (suc b)) × (Tight k ps ws M N p (suc b) → t p ≡ true) = λ p h.
     tells_tight k ps ws M N row (take (b + 1) ys) (take (b + 1) zs) top rest b p
@@ -74,7 +74,7 @@ loop-v-preserved c =
           (λ lt. let lx : x < b + 1 = omega (arith, here) in subst T (sym here) ((is x (omega arith)).0 (first.1 lx))),
       late_more k ps ws M N b (tabled ls) l t old.1 is wrote kept,
     ) in
-    let P : ℕ → Type 0 = λ n. (k : ℕ) (ws : List Window) → Counted k (length ps) ws c.args.table.now → length ws ≡ c.args.windows
+    let P : ℕ → Type 0 = λ n. (k : ℕ) (ws : List Window) → Counted k (length ps) ws c.args.tables.now.held → length ws ≡ c.args.windows
     → EarlyTo k ps ws M N n m × LateTo k ps ws M N n l in (
       subst P (sym (add-one b)) more,
       λ p. elim (cases_lt b p) [
