@@ -19,4 +19,5 @@ mod tight;
 
 pub use judging::verdict;
 pub use narrowing::narrow;
+pub use refusals::Fault;
 pub use support::{SupportFault, supports};

@@ -41,7 +41,8 @@ pub(crate) fn overfull(
     requires { Summed days.now.pairs.now before.now }
     ensures { Found days.now.pairs.now table.now result }
 {
-    // By its number: a last day has a row, two sums and a place in the answer.
+    // A loop over the last days, which have a row, two sums and a place in the answer: in find_map the proof has to follow std's range
+    // to show that last_over may be called, and that did not close.
     for last in 0..days.pairs.len() {
         if let Some(first) = last_over(row(table, last), &before[..last + 1], before[last + 1]) {
             return Some((first, last));

@@ -47,7 +47,8 @@ pub(crate) fn mark_shortage(
     }
 }
 
-// How many marks there are before each day.
+// How many marks there are before each day. Not one with the sums of the mosts: those are of a half of each pair and in 32 bits, and a
+// function of both would take a closure with its bound.
 fn sum_marks(marks: &[u8], before: &mut [u16; EDGES])
     requires marks_len_bound { length marks.now ≤ 128 }
     ensures { (v : ℕ) → v ≤ length marks.now → slice_index before.new v ≡ total (tabled marks.now) v }

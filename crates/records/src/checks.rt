@@ -30,7 +30,8 @@ fn check_pairs(first: u16, pairs: &[(u16, u16)]) -> Result<(), NarrowingFault>
     }
 }
 
-// Whether a window does not end before it begins, and all its days are of the `days` days from day `day` on.
+// Whether a window does not end before it begins, and all its days are of the `days` days from day `day` on. (Whoever asks this of one
+// day writes the comparison out, which is as short as a call would be.)
 fn lies_within(day: u16, days: usize, window: (u16, u16)) -> bool
     ensures { result ≡ stands day days window }
 {
