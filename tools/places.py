@@ -31,7 +31,7 @@ POINTS = {
         ('larger by hand', r'if \w+(\[\w+\])? [<>] \w+(\[\w+\])? \{ '),
     ]),
     6: ('buffers with a length beside, parallel lists, hand searches', [
-        ('array field', r'^\s*(pub(\(crate\))? )?\w+: \[[^;]*[A-Za-z(][^;]*; \w+\],$'),
+        ('array field', r'^\s*(pub(\(crate\))? )?\w+: \[\(?(u\d+|usize|bool|[A-Z]\w*)\b[^;]*; \w+\],$'),
         ('length beside', r'^\s*(pub )?(len|count): usize,'),
         ('slice up to a length', r'\[0?\.\.(self\.)?(len|count|\w+\.len\(\))\]'),
     ]),

@@ -1,5 +1,5 @@
 // Puts every small problem to the verdict, the narrowing and the support question, and compares with what is found by trying
-// everything.
+// everything. Casts are written `as` where there is no From: from usize down, and from u32 to usize.
 #![tactic(auto)]
 
 mod problems;

@@ -4,6 +4,7 @@ ghost use Rattle.std.specs.Prelude.{◌≡◌, ℕ, ◌+◌, ◌-◌, ◌*◌, �
 ghost use Rattle.plans.specs.Needs.{Within};
 ghost use Rattle.narrowing.specs.Counting.{Blank, Tallied, Counted};
 
+use crate::days::Days;
 use records::Record;
 use records::limits::{CELLS, MOST_DAYS};
 
@@ -59,17 +60,16 @@ fn add_row(row: &mut [u16], sums: &mut [u16])
 }
 
 // Each cell becomes how many windows lie inside the run from its first to its last day.
-pub(crate) fn count_runs<R: Record>(day: u16, records: &[R], days: usize, table: &mut [u16; CELLS])
+pub(crate) fn count_runs<R: Record>(days: &Days, records: &[R], table: &mut [u16; CELLS])
     requires records_len_bound { length records.now ≤ 512 }
-    requires days_bound { days ≤ 128 }
-    requires within { Within day days (map R.span records.now) }
+    requires within { Within days.now.first (length days.now.pairs.now) (map R.span records.now) }
     requires blank { Blank table.old }
-    ensures { Counted day days (map R.span records.now) table.new }
+    ensures { Counted days.now.first (length days.now.pairs.now) (map R.span records.now) table.new }
 {
-    tally(day, records, table);
+    tally(days.first, records, table);
     let mut sums = [0u16; MOST_DAYS];
     // By its number: the row of a last day and the sums both end at it.
-    for last in 0..days {
+    for last in 0..days.pairs.len() {
         add_row(
             &mut table[last * MOST_DAYS..last * MOST_DAYS + last + 1],
             &mut sums[..last + 1],

@@ -41,7 +41,7 @@ pub(crate) fn judge<R: Record>(
             })
         }
         Err(Lack::Windows) => {
-            mark_shortage(days, &tables.held, &tables.left, &mut marks[..count]);
+            mark_shortage(days, tables, &mut marks[..count]);
             Err(NarrowingFault::Short {
                 windows: count_meeting(days.first, records, &marks[..count]),
                 fewests: sum_needed(days, &marks[..count]),

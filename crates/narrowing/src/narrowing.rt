@@ -48,7 +48,6 @@ fn narrow_counted<R: Record>(days: &Days, tables: &Tables, records: &mut [R])
     requires planned { Planned days.now.first days.now.pairs.now (map R.span records.old) tables.now }
     ensures { records.new ≡ placed R.put (narrowed days.now.first days.now.pairs.now (map R.span records.old)) records.old }
 {
-    let count = days.pairs.len();
     let mut right = [0u32; EDGES];
     needs_right(days, &tables.held, &mut right);
     let mut earliest = [0u16; EDGES];
@@ -62,8 +61,8 @@ fn narrow_counted<R: Record>(days: &Days, tables: &Tables, records: &mut [R])
         &mut latest,
     );
     let mut ends = [0u8; CELLS];
-    lows(count, &earliest, &mut ends);
-    highs(count, &latest, &mut ends);
+    lows(days, &earliest, &mut ends);
+    highs(days, &latest, &mut ends);
     put_windows(days.first, &ends, records);
 }
 

@@ -8,8 +8,9 @@ ghost use Rattle.narrowing.specs.Counting.{tabled, Counted, NeedsOf, Shown};
 
 use crate::counting::{places, row};
 use crate::days::Days;
+use crate::tables::Tables;
 use records::Record;
-use records::limits::{CELLS, EDGES};
+use records::limits::EDGES;
 
 // The first day whose need with its cell comes to the goal, where one does.
 fn find_run(row: &[u16], left: &[u32], goal: u32) -> Option<usize>
@@ -20,29 +21,29 @@ fn find_run(row: &[u16], left: &[u32], goal: u32) -> Option<usize>
 }
 
 // Goes back from the last day by what makes each need so large, and marks the days whose fewest does.
-pub(crate) fn mark_shortage(
-    days: &Days,
-    table: &[u16; CELLS],
-    left: &[u32; EDGES],
-    marks: &mut [u8],
-)
+pub(crate) fn mark_shortage(days: &Days, tables: &Tables, marks: &mut [u8])
     requires marks_len { length marks.old ≡ length days.now.pairs.now }
-    requires needs_of { NeedsOf days.now.pairs.now table.now left.now }
-    requires left_bound { (v : ℕ) → v ≤ length days.now.pairs.now → slice_index left.now v ≤ v * 65535 }
-    requires counted { (k : ℕ) × (ws : List Window) × Counted k (length days.now.pairs.now) ws table.now }
+    requires needs_of { NeedsOf days.now.pairs.now tables.now.held tables.now.left }
+    requires left_bound { (v : ℕ) → v ≤ length days.now.pairs.now → slice_index tables.now.left v ≤ v * 65535 }
+    requires counted { (k : ℕ) × (ws : List Window) × Counted k (length days.now.pairs.now) ws tables.now.held }
     ensures marks { Marks (length days.now.pairs.now) marks.new }
-    ensures shown { Shown days.now.pairs.now table.now left.now marks.new }
+    ensures shown { Shown days.now.pairs.now tables.now.held tables.now.left marks.new }
 {
     marks.fill(0);
     let mut v = days.pairs.len();
     // A loop with a measure: it goes back by a day or by a whole run, and no list has its steps.
     while v > 0 {
         let day = v - 1;
-        if left[v] == left[day] + days.pairs[day].0 as u32 {
+        if tables.left[v] == tables.left[day] + days.pairs[day].0 as u32 {
             marks[day] = 1;
             v = day;
         } else {
-            v = find_run(row(table, day), &left[..day + 1], left[v]).unwrap();
+            v = find_run(
+                row(&tables.held, day),
+                &tables.left[..day + 1],
+                tables.left[v],
+            )
+            .unwrap();
         }
     }
 }

@@ -114,7 +114,8 @@ fn possible(days: &Days, windows: &mut [Window], place: usize, day: u16) -> bool
     guard.has_plan(days)
 }
 
-// Whether the place is one of the records, the day one of the days, and the working list long enough.
+// Whether the place is one of the records, the day one of the days (a comparison as short as a call of the window's check), and the
+// working list long enough.
 fn is_askable(
     first: u16,
     days: usize,
@@ -128,8 +129,8 @@ fn is_askable(
     place < records && first <= day && ((day - first) as usize) < days && records <= entries
 }
 
-// Whether some plan gives the record at a place the day. The windows of the records are copied to the front of the working
-// list, and its later entries stay; a refusal leaves all of it as it was.
+// Whether some plan gives the record at a place the day. By the rules the working list is the caller's: the windows of the records are
+// copied to its front, and its later entries stay; a refusal leaves all of it as it was.
 pub fn supports<R: Record>(
     first: u16,
     pairs: &[(u16, u16)],

@@ -12,6 +12,7 @@ use records::Record;
 use records::limits::{CELLS, EDGES};
 
 // How many windows lie inside each run of days, the sums of the mosts before each day, and the need of the days before it.
+// What fills one of them in takes those that it reads one by one, as the others are not filled in yet.
 #[derive(Drop)]
 pub(crate) struct Tables {
     pub(crate) held: [u16; CELLS],
@@ -42,13 +43,12 @@ impl Tables {
 
     // Fills the tables in, and says whether there is a plan.
     pub(crate) fn weigh<R: Record>(&mut self, days: &Days, records: &[R]) -> Result<(), Lack>
-        // The records are a slice, which the narrowing writes later: their bound and that they are proper stay clauses.
         requires records_len_bound { length records.now ≤ 512 }
         requires proper { Proper days.now.first days.now.pairs.now (map R.span records.now) }
         requires blank { Blank self.old.held }
         ensures { Weighed days.now.first days.now.pairs.now (map R.span records.now) self.new result }
     {
-        count_runs(days.first, records, days.pairs.len(), &mut self.held);
+        count_runs(days, records, &mut self.held);
         sum_mosts(days, &mut self.before);
         if let Some((begin, end)) = overfull(days, &self.held, &self.before) {
             return Err(Lack::Room(begin, end));

@@ -22,7 +22,7 @@ fn print_days(rt: &HostRuntime, calendar: &Closing<Weekly>) -> anyhow::Result<()
 
 fn run(rt: &HostRuntime) -> anyhow::Result<()> {
     let mut sheet = Vec::new(rt.alloc());
-    // one byte more than a sheet may have is enough to refuse it
+    // one byte more than a sheet may have is enough to refuse it (a cast: there is no From from usize to u64)
     let mut input = BufReader::new(rt.alloc(), rt.stdin())?.take(SHEET_BYTES as u64 + 1);
     input.read_to_end(&mut sheet)?;
     match calendar_of(&sheet) {

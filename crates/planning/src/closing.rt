@@ -1,4 +1,5 @@
-// The first plan of windows: from the front on, each place is closed to its first day, and all are narrowed again.
+// The first plan of windows: from the front on, each place is closed to its first day, and all are narrowed again. The first day and the
+// pairs go side by side, as `narrow` takes them.
 ghost use Rattle.std.specs.Prelude.{◌≡◌, suc, ◌<◌, ◌≤◌, map, length, Ok};
 ghost use Rattle.std.specs.Option.{option_map};
 ghost use Rattle.plans.specs.Narrowing.{first_plan};

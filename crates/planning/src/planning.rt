@@ -10,7 +10,7 @@ use records::{NarrowingFault, Record, Window, check};
 // A day for each record.
 pub type Days = ArrayVec<u16, MOST_RECORDS>;
 
-// The windows of the records.
+// The windows of the records, as a new list. (`copy_windows` of records writes the front of a list that is there, and leaves the rest.)
 fn windows_of<R: Record>(records: &[R]) -> ArrayVec<Window, MOST_RECORDS>
     requires { length records.now ≤ 512 }
     ensures { result.items ≡ map bare (map R.span records.now) }

@@ -26,14 +26,10 @@ lines sheet = unended (pieces 10 sheet)
 abbrev pub parts : List ℕ → List (List ℕ)
 parts line = pieces 32 line
 
--- the first of a list, and what comes after it
+-- the first of a list
 abbrev pub first : {A : Type 0} → List A → Option A
 first [] = None
 first (x ∷ xs) = Some x
-
-abbrev pub rest : {A : Type 0} → List A → List A
-rest [] = []
-rest (x ∷ xs) = xs
 
 -- how many bytes come before the first `end`
 abbrev pub before : ℕ → List ℕ → ℕ

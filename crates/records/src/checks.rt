@@ -1,4 +1,4 @@
-// What is asked of the days, the pairs and the records.
+// What is asked of the days, the pairs and the records. These come from public calls side by side, and are not checked before this.
 ghost use Rattle.std.specs.Prelude.{◌≡◌, ◌+◌, ◌≤◌, map, not, length};
 ghost use Rattle.std.specs.List.{position};
 ghost use Rattle.records.specs.Checks.{stands, past, range_check, pairs_check, number_check, windows_check, checked};
@@ -23,7 +23,8 @@ fn check_pairs(first: u16, pairs: &[(u16, u16)]) -> Result<(), NarrowingFault>
     requires { first + length pairs.now ≤ 65536 }
     ensures { result ≡ pairs_check first pairs.now }
 {
-    // A match and no map_or: only of a place that was found is it known that the day after it is one.
+    // A match and no map_or: only of a place that was found is it known that the day after it is one. (There is no From from usize down, so
+    // the day is a cast.)
     match first_bad_pair(pairs) {
         Some(place) => Err(NarrowingFault::BadPair(first + place as u16)),
         None => Ok(()),

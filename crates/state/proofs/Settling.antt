@@ -1,5 +1,5 @@
 -- From the checks and the weighing to the answer of an edit.
-use Rattle.std.proofs.Common.{◌≡◌, ℕ, ◌<◌, ◌≤◌, Bool, true, false, cond, ltb, List, [], ◌++◌, length, take, drop, Some, None, Result, sym, refl, ap, ◌∙◌, subst, arith}
+use Rattle.std.proofs.Common.{◌≡◌, ℕ, ◌<◌, ◌≤◌, Bool, false, cond, ltb, List, [], ◌++◌, length, take, drop, Some, None, Result, sym, refl, ap, ◌∙◌, subst, arith}
 use Rattle.std.proofs.lemmas.List.{length-take-le, take_at, take-append-drop}
 use Rattle.plans.specs.Plans.{Window}
 use Rattle.plans.specs.Sets.{Marks, run_marks, ShowsShortage}
@@ -9,7 +9,7 @@ use Rattle.std.proofs.lemmas.Bool.{lt-ltb}
 use Rattle.ledger.specs.Orders.{Order, enter}
 use Rattle.ledger.specs.Ledger.{Calendar, Ledger, pairs, windows, weigh}
 use Rattle.ledger.specs.Calls.{Edit, Edit.admit, Edit.change, Edit.withdraw, Edit.light, Call, Call.edit, edits, edit_subject, subject, edited, made, checks, first_fault}
-use Rattle.ledger.specs.Replies.{Reply, Reply.done, Reply.refused, Reply.lacks, told, weighed, settled, past_weighing, past_checks, reply, number_of, refuses, onto, marks_after, ledger_after}
+use Rattle.ledger.specs.Replies.{Reply, Reply.done, Reply.lacks, told, weighed, settled, past_weighing, past_checks, reply, number_of, refuses, onto, marks_after, ledger_after}
 use Rattle.state.specs.Answers.{edit_reply, horizon_marks, Edits, Edited}
 use Rattle.state.specs.Weights.{answer_of, ledger_by, Settles}
 use Rattle.faults.specs.declared.BookFault.{BookFault}

@@ -1,4 +1,5 @@
-// The calls that a book and a trial share. Each only passes the calendar on: a state has none, so that a trial can copy it.
+// The calls that a book and a trial share. Each only passes the calendar on: a state has none, so that a trial can copy it. A number and
+// the window asked for go side by side, as the rules give them.
 ghost use Rattle.std.specs.Prelude.{◌≡◌, [], length};
 ghost use Rattle.ledger.specs.Calls.{Edit, Call};
 ghost use Rattle.ledger.specs.Replies.{reply};

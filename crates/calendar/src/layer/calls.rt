@@ -38,8 +38,8 @@ impl<C> Closing<C> {
 }
 
 impl<C: Calendar> Closing<C> {
-    #[tactic(auto, using(crate::proofs::AsAsked::as_closing))]
     // The layer of runs on a calendar; of runs that the check refuses, a layer without runs.
+    #[tactic(auto, using(crate::proofs::AsAsked::as_closing))]
     pub fn new(below: C, runs: &[(u16, u16)]) -> Closing<C>
         ensures below { below_of result ≡ below }
         ensures runs { runs_of result ≡ kept_runs (closing_check runs.now) runs.now }

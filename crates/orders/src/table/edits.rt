@@ -1,4 +1,5 @@
 // Orders entered, changed, removed and let out. What is held and what is told are two clauses each, as callers use one of them.
+// A number and the window asked for go side by side, as the rules give them; `Order` has the told window as well.
 ghost use Rattle.std.specs.Prelude.{◌≡◌, length, is_some, ◌&&◌, if◌then◌else◌, Some, None};
 ghost use Rattle.std.specs.List.{insert, remove};
 ghost use Rattle.records.specs.Bare.{span_of};

@@ -61,7 +61,7 @@ impl Table {
         begun
     }
 
-    // Whether some plan from today on gives the order at a place a day.
+    // Whether some plan from today on gives the order at a place a day. A place and a day are the question's, as it is put to the narrowing.
     pub fn supports(
         &self,
         today: u16,

@@ -1,4 +1,4 @@
-// The checks of each call, in their order.
+// The checks of each call, in their order. What a call is given they are given side by side, as the rules give it to the call.
 ghost use Rattle.std.specs.Prelude.{◌≡◌, cond, Ok, Err};
 ghost use Rattle.ledger.specs.Orders.{holds as holds_number};
 ghost use Rattle.ledger.specs.Calls.{Edit, Call, bad_window, bad_day};
@@ -33,7 +33,7 @@ impl State {
         !self.is_outside(day) && self.lit[usize::from(day) % HORIZON]
     }
 
-    // Whether a day is not of the horizon.
+    // Whether a day is not of the horizon: a comparison as short as a call of the records' check of a window.
     pub(crate) fn is_outside(&self, day: u16) -> bool
         ensures { result ≡ bad_day (ledger_of self.now) day }
     {

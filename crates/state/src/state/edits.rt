@@ -1,5 +1,5 @@
 // The calls that change what is held or lit: each changes a copy of the state and settles it. The change is one line; a closure
-// in its place would need a bound and a clause in each.
+// in its place would need a bound and a clause in each. A number and the window asked for go side by side, as the rules give them.
 ghost use Rattle.std.specs.Prelude.{◌≡◌, ◌+◌, ◌<◌, ◌≤◌, [], length};
 ghost use Rattle.ledger.specs.Calls.{Edit, Call, with_light as switched};
 ghost use Rattle.ledger.specs.Replies.{reply, ledger_after};
@@ -67,7 +67,7 @@ impl State {
         self.check_admit(number, asked, marks.len())
             .map_err(|check| BookFault::about(number, check))?;
         let mut next = *self;
-        next.table.enter(number, asked);
+        next.table.enter(number, asked).unwrap();
         self.settle(calendar, next, number, marks)
     }
 

@@ -29,7 +29,7 @@ pub tally-requires : goal.tally-requires
 tally-requires g c =
     record {
       records_len_bound = c.requires.records_len_bound;
-      within = within_more c.args.day c.args.days 128 (map g.R.Record.span c.args.records.now) c.requires.days_bound c.requires.within;
+      within = within_more c.args.days.now.first (length c.args.days.now.pairs.now) 128 (map g.R.Record.span c.args.records.now) c.args.days.now.few c.requires.within;
       blank = c.requires.blank;
     }
 
@@ -44,6 +44,7 @@ loop-last-init g c = (
 
 pub add_row-requires : goal.add_row-requires
 add_row-requires g c =
+    let few = c.args.days.now.few in
     let b : ℕ = c.loop-last.last in
     let xs = c.loop-last.table in
     let ss = c.loop-last.sums in
@@ -54,14 +55,15 @@ add_row-requires g c =
       row_len = n ∙ sym m;
       fits = λ p h.
           let le : p ≤ b = omega arith in
-          let all = grown c.args.day c.args.days ws b xs ss c.requires.within len (omega arith) (λ a i. c.loop-last.invariant.2 b (omega arith) (omega arith) a i) c.loop-last.invariant.3 c.loop-last.invariant.4 p le in
-          omega (arith, all, forced_le c.args.day ws p (suc b), length-map c.args.records.now g.R.Record.span, c.requires.records_len_bound);
+          let all = grown c.args.days.now.first (length c.args.days.now.pairs.now) ws b xs ss c.requires.within len (omega arith) (λ a i. c.loop-last.invariant.2 b (omega arith) (omega arith) a i) c.loop-last.invariant.3 c.loop-last.invariant.4 p le in
+          omega (arith, all, forced_le c.args.days.now.first ws p (suc b), length-map c.args.records.now g.R.Record.span, c.requires.records_len_bound);
     }
 
 pub loop-last-preserved : goal.loop-last-preserved
 loop-last-preserved g c =
+    let few = c.args.days.now.few in
     let b : ℕ = c.loop-last.last in
-    let k : ℕ = c.args.day in
+    let k : ℕ = c.args.days.now.first in
     let xs = c.loop-last.table in
     let ss = c.loop-last.sums in
     let ws = map g.R.Record.span c.args.records.now in
@@ -74,7 +76,7 @@ loop-last-preserved g c =
     let rl : length row ≡ b + 1 = c.add_row.auto.row ∙ n in
     let sl : length sums ≡ b + 1 = c.add_row.auto.sums ∙ m in
     let all : (p : ℕ) → p ≤ b → get_or (take (b + 1) ss) p 0 + sum (drop p (part xs b)) ≡ forced k ws p (suc b) =
-    grown k c.args.days ws b xs ss c.requires.within len lt (λ a i. c.loop-last.invariant.2 b (omega arith) lt a i) c.loop-last.invariant.3 c.loop-last.invariant.4 in (
+    grown k (length c.args.days.now.pairs.now) ws b xs ss c.requires.within len lt (λ a i. c.loop-last.invariant.2 b (omega arith) lt a i) c.loop-last.invariant.3 c.loop-last.invariant.4 in (
       over_length ss sums b 128 c.loop-last.invariant.0 lt sl,
       (λ j h p l. elim (cases_lt j b) [
         | inl i ↦ put_low xs row b j p len lt rl i (omega arith) ∙ c.loop-last.invariant.1 j i p l

@@ -8,7 +8,7 @@ abbrev pub invariant-loop-last : goal.invariant-loop-last
 invariant-loop-last g l =
     let ws = map g.R.Record.span l.records in
     (length l.sums ≡ 128)
-    × ((b : ℕ) → b < l.last → (p : ℕ) → p ≤ b → get_or l.table (b * 128 + p) 0 ≡ forced l.day ws p (suc b))
-    × ((b : ℕ) → l.last ≤ b → b < 128 → (a : ℕ) → a < 128 → get_or l.table (b * 128 + a) 0 ≡ matching ws (l.day + a) (l.day + b))
-    × ((p : ℕ) → p < l.last → get_or l.sums p 0 ≡ forced l.day ws p l.last)
+    × ((b : ℕ) → b < l.last → (p : ℕ) → p ≤ b → get_or l.table (b * 128 + p) 0 ≡ forced l.days.first ws p (suc b))
+    × ((b : ℕ) → l.last ≤ b → b < 128 → (a : ℕ) → a < 128 → get_or l.table (b * 128 + a) 0 ≡ matching ws (l.days.first + a) (l.days.first + b))
+    × ((p : ℕ) → p < l.last → get_or l.sums p 0 ≡ forced l.days.first ws p l.last)
     × ((p : ℕ) → l.last ≤ p → get_or l.sums p 0 ≡ 0)

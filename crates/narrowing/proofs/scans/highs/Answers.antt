@@ -11,7 +11,7 @@ pub loop-a-preserved : goal.loop-a-preserved
 loop-a-preserved c =
     let p : ℕ = c.loop-a.a in
     let a : ℕ = c.loop-a.a - 1 in
-    let d : ℕ = c.args.days in
+    let d : ℕ = length c.args.days.now.pairs.now in
     let r : ℕ = a * 128 + a in
     let s : ℕ = a * 128 + d in
     let f : ℕ → ℕ = tabled c.args.latest.now in
@@ -22,7 +22,7 @@ loop-a-preserved c =
     let new : List ℕ = c.step.new.found in
     let row : List ℕ = c.step.new.row in
     let len : length xs ≡ 16384 = omega arith in
-    let few : d ≤ 128 = c.requires in
+    let few : d ≤ 128 = c.args.days.now.few in
     let lt : a < d = omega arith in
     let ol : length hs ≡ 128 = length-set os a a ∙ c.loop-a.invariant.0 in
     let n = part_long xs r s (omega arith) (omega arith) in

@@ -16,6 +16,7 @@ loop-b-preserved c =
     let ls : List ℕ = set os b b in
     let new : List ℕ = c.step.new.found in
     let row : List ℕ = c.step.new.row in
+    let few = c.args.days.now.few in
     let lt : b < 128 = omega arith in
     let len : length xs ≡ 16384 = omega arith in
     let ol : length ls ≡ 128 = length-set os b b ∙ c.loop-b.invariant.0 in

@@ -16,8 +16,8 @@ loop-v-init c =
     λ j. ap (λ l. get_or l j 0) (c.fill.ensures.after (λ y e. e)) ∙ zeros (length c.args.marks.now) j in
     (omega arith, (λ j. omega (arith, zero j)), (λ j h. zero j), (λ k ws C. omega arith))
 
-pub loop-v-preserved-then-left-v : goal.loop-v-preserved-then-left-v
-loop-v-preserved-then-left-v c =
+pub loop-v-preserved-then-tables-v : goal.loop-v-preserved-then-tables-v
+loop-v-preserved-then-tables-v c =
     let v : ℕ = c.loop-v.v in
     let u : ℕ = v - 1 in
     let marks = c.loop-v.marks in
@@ -37,7 +37,7 @@ loop-v-preserved-then-left-v c =
           let f : missing S (k + v) ws ≡ missing S (suc (k + u)) ws = ap (λ t. missing S t ws) e in
           let more = missing_day S (in_set k (set marks u 1)) (k + u) ws (λ t l. day_later k marks u t l) in
           let day = needed_day k marks pairs u (omega arith) here zero in
-          omega (arith, c.if-left-v.true, c.loop-v.invariant.3 k ws C)),
+          omega (arith, c.if-tables-v.true, c.loop-v.invariant.3 k ws C)),
     )
 
 pub find_run-requires : goal.find_run-requires
@@ -45,7 +45,7 @@ find_run-requires c =
     let u : ℕ = c.loop-v.v - 1 in
     let top : c.loop-v.v ≤ length c.args.days.now.pairs.now = c.loop-v.invariant.0 in
     let n = c.row.ensures.long in
-    let m = front_length c.args.left.now u 129 (omega arith) (omega arith) in
+    let m = front_length c.args.tables.now.left u 129 (omega arith) (omega arith) in
     record { row_len = n ∙ sym m }
 
 -- by whatever windows the table counts, some run attains the need
@@ -53,7 +53,7 @@ pub unwrap-v-requires : goal.unwrap-v-requires
 unwrap-v-requires c =
     let v : ℕ = c.loop-v.v in
     let u : ℕ = v - 1 in
-    let left = c.args.left.now in
+    let left = c.args.tables.now.left in
     let top : v ≤ length c.args.days.now.pairs.now = c.loop-v.invariant.0 in
     let n = c.row.ensures.long in
     let e : suc u ≡ v = omega arith in
@@ -63,7 +63,7 @@ unwrap-v-requires c =
     let L = c.requires.needs_of k ws C in
     let f : tabled left (suc u) ≡ get_or left v 0 = ap (tabled left) e in
     some_since c.find_run.result _ _ c.find_run.ensures (λ none. elim (L.attained u (omega arith)) [
-      | inl x ↦ c.if-left-v.false (sym f ∙ x)
+      | inl x ↦ c.if-tables-v.false (sym f ∙ x)
       | inr x ↦
           let q : ℕ = x.0 in
           none q (omega (arith, x.1)) (omega (arith, f, x.2, c.row.ensures.cells q x.1, C.cells u (omega arith) q x.1, front_at left u q x.1))
@@ -75,7 +75,7 @@ loop-v-preserved c =
     let u : ℕ = v - 1 in
     let p : ℕ = c.unwrap-v.result in
     let marks = c.loop-v.marks in
-    let left = c.args.left.now in
+    let left = c.args.tables.now.left in
     let pairs = c.args.days.now.pairs.now in
     let d : ℕ = length pairs in
     let top : v ≤ d = c.loop-v.invariant.0 in
@@ -99,7 +99,7 @@ pub returns : goal.returns
 returns c =
     let marks = c.loop-v.marks in
     let pairs = c.args.days.now.pairs.now in
-    let left = c.args.left.now in
+    let left = c.args.tables.now.left in
     record {
       marks = record { long = c.loop-v.auto.marks ∙ c.fill.ensures.len ∙ c.requires.marks_len; marked = c.loop-v.invariant.1 };
       shown = λ k ws C h.

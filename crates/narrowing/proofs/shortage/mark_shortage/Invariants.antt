@@ -11,8 +11,8 @@ invariant-loop-v l =
     (l.v ≤ length l.days.pairs.now)
     × ((j : ℕ) → get_or l.marks j 0 ≤ 1)
     × ((j : ℕ) → j < l.v → get_or l.marks j 0 ≡ 0)
-    × ((k : ℕ) (ws : List Window) → Counted k (length l.days.pairs.now) ws l.table
-    → tabled l.left (length l.days.pairs.now) ≤ tabled l.left l.v + needed k l.marks l.days.pairs.now + missing (in_set k l.marks) (k + l.v) ws)
+    × ((k : ℕ) (ws : List Window) → Counted k (length l.days.pairs.now) ws l.tables.held
+    → tabled l.tables.left (length l.days.pairs.now) ≤ tabled l.tables.left l.v + needed k l.marks l.days.pairs.now + missing (in_set k l.marks) (k + l.v) ws)
 
 abbrev pub decreases-loop-v : goal.decreases-loop-v
 decreases-loop-v l = l.v

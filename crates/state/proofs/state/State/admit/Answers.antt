@@ -1,6 +1,8 @@
-use Rattle.std.proofs.Common.{length, refl, ap, ◌∙◌}
+use Rattle.std.proofs.Common.{◌≡◌, true, cond, Some, None, is_some, length, refl, ap, ◌∙◌}
+use Rattle.std.proofs.lemmas.Bool.{lt-ltb}
 use Rattle.ledger.specs.Orders.{Order}
 use Rattle.ledger.specs.Calls.{Edit.admit, with_held}
+use Rattle.orders.specs.Lists.{entry_place}
 use Rattle.orders.specs.Tables.{held_in, has_room}
 use Rattle.state.specs.Model.{ledger_of}
 use Rattle.state.specs.Near.{near_all}
@@ -9,6 +11,14 @@ use Rattle.state.proofs.Passing.{admit_passed}
 use Rattle.state.proofs.Refusing.{no_fault}
 use Rattle.state.proofs.Settling.{edits_to, entered}
 use Rattle.state.proofs.state.State.admit.Goals as goal
+
+pub unwrap-requires : goal.unwrap-requires
+unwrap-requires g c =
+    let s = c.args.self.now in
+    let pass = no_fault c.check_admit.result c.check_admit.ensures c.map_err.ensures.variant c.in_ok-map_err.was in
+    let p = admit_passed (ledger_of s) c.args.number c.args.asked.first c.args.asked.last (length c.args.marks.now) pass in
+    let room : has_room s.table ≡ true = lt-ltb (length (held_in s.table)) 512 p.0 in
+    ap is_some (c.enter.ensures.answer ∙ ap (λ b. cond b (Some (entry_place c.args.number (held_in s.table))) None) room)
 
 pub invariant_of-next : goal.invariant_of-next
 invariant_of-next g c =
