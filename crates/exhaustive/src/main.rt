@@ -75,7 +75,7 @@ fn narrowed(problem: &Problem) -> bool {
     list == expected(problem) && problem.agrees(reply, &marks)
 }
 
-// Whether a question is answered right, with the windows copied to the front of the working list.
+// Whether a question, a place and a day, is answered right, with the windows copied to the front of the working list.
 fn answered(problem: &Problem, place: usize, day: u16) -> bool {
     let list = problem.working_list();
     let records = &list[..problem.windows.len()];

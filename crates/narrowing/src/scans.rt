@@ -1,6 +1,6 @@
 // The lowest and the highest day of each window, by its first and its last day. One table has both: row b has the lowest
 // day for each first day up to b, and row a the highest for each last day from a on.
-ghost use Rattle.std.specs.Prelude.{◌≡◌, ℕ, ◌+◌, ◌*◌, ◌<◌, ◌≤◌, length, slice_index};
+ghost use Rattle.std.specs.Prelude.{◌≡◌, ℕ, ◌+◌, ◌*◌, ◌<◌, length, slice_index};
 ghost use Rattle.narrowing.specs.Scanning.{Stepped, Lows, Highs};
 
 use crate::days::Days;

@@ -12,7 +12,7 @@ use records::Record;
 use records::limits::{CELLS, EDGES};
 
 // How many windows lie inside each run of days, the sums of the mosts before each day, and the need of the days before it.
-// What fills one of them in takes those that it reads one by one, as the others are not filled in yet.
+// What reads only some of them takes those one by one: the others are not filled in yet, or not read.
 #[derive(Drop)]
 pub(crate) struct Tables {
     pub(crate) held: [u16; CELLS],

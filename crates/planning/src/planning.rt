@@ -22,7 +22,7 @@ fn windows_of<R: Record>(records: &[R]) -> ArrayVec<Window, MOST_RECORDS>
     windows
 }
 
-// The first plan: a day for each record; none where there is no plan.
+// The first plan: a day for each record; none where there is no plan. The days are given as to the narrowing: the first, and the pairs.
 pub fn first_plan<R: Record>(
     first: u16,
     pairs: &[(u16, u16)],

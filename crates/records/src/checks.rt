@@ -1,4 +1,4 @@
-// What is asked of the days, the pairs and the records. These come from public calls side by side, and are not checked before this.
+// What is asked of the days, the pairs and the records, which come side by side, as public calls take them.
 ghost use Rattle.std.specs.Prelude.{◌≡◌, ◌+◌, ◌≤◌, map, not, length};
 ghost use Rattle.std.specs.List.{position};
 ghost use Rattle.records.specs.Checks.{stands, past, range_check, pairs_check, number_check, windows_check, checked};

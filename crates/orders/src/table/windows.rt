@@ -61,7 +61,8 @@ impl Table {
         begun
     }
 
-    // Whether some plan from today on gives the order at a place a day. A place and a day are the question's, as it is put to the narrowing.
+    // Whether some plan from today on gives the order at a place a day. Today and the pairs, a place and a day are
+    // given as the narrowing takes them.
     pub fn supports(
         &self,
         today: u16,
