@@ -1,8 +1,9 @@
--- A closing layer has the pairs that it is asked for.
-use Rattle.std.proofs.Common.{◌≡◌, ℕ, zero, suc, ◌<◌, true, leb, List, [], ◌∷◌, length, get_or, ⊎_elim, arith}
+-- The pairs of each kind of calendar are those that it is asked for.
+use Rattle.std.proofs.Common.{◌≡◌, ℕ, zero, suc, ◌<◌, true, leb, List, [], ◌∷◌, length, get_or, refl, ⊎_elim, arith}
+use Rattle.std.proofs.lemmas.List.{get_or_past}
 use Rattle.std.proofs.lemmas.Bool.{false≢true, cond-true, cond-false, cases_Bool, and_from, and_parts, or_left, or_right, or_cases, le-leb, leb-true}
-use Rattle.calendar.specs.Asked.{AsClosing, Within}
-use Rattle.calendar.specs.Pairs.{in_runs, closed}
+use Rattle.calendar.specs.Asked.{AsListed, AsClosing, Within}
+use Rattle.calendar.specs.Pairs.{listed, in_runs, closed}
 
 run_covers : (runs : List (ℕ × ℕ)) (t i : ℕ) → i < length runs → Within (get_or runs i (0, 0)) t → in_runs runs t ≡ true
 run_covers [] t i h w = absurd (omega arith)
@@ -16,6 +17,9 @@ covered (r ∷ rs) t e =
     (λ h. let both = and_parts (leb r.0 t) (leb t r.1) h in (0, omega arith, (leb-true _ _ both.0, leb-true _ _ both.1)))
     (λ h. let found = covered rs t h in (suc found.0, omega (arith, found.1), found.2))
     (or_cases _ _ e)
+
+pub as_listed : (rows : List (ℕ × ℕ)) → AsListed rows (listed rows)
+as_listed rows = record { first_days = λ t h. refl; later_days = λ t h. get_or_past rows t (0, 0) h }
 
 pub as_closing : (runs : List (ℕ × ℕ)) (below : ℕ → ℕ × ℕ) → AsClosing runs below (closed runs below)
 as_closing runs below =

@@ -1,1 +1,2 @@
 mod AsAsked
+mod Weekdays

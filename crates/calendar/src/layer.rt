@@ -1,3 +1,5 @@
+ghost use Rattle.std.specs.Prelude.{◌≤◌, length};
+
 use crate::CLOSED_RUNS;
 use arrayvec::ArrayVec;
 
@@ -6,6 +8,8 @@ use arrayvec::ArrayVec;
 pub struct Closing<C> {
     below: C,
     runs: ArrayVec<(u16, u16), CLOSED_RUNS>,
+    // a contract sees the runs, and not that there is room for no more
+    ghost few: { length runs.items ≤ 16 },
 }
 
 pub mod calls;

@@ -21,6 +21,10 @@ all_unmap P f [] h = tt
 all_unmap P f (x ∷ xs) h = (h.0, all_unmap P f xs h.1)
 
 -- numbers that are not there, and numbers in ascending order
+pub count_none : (n : ℕ) (os : List Order) → holds n os ≡ false → count n (numbers os) ≡ 0
+count_none n [] h = refl
+count_none n (o ∷ os) h = let p = or_parts (eqb n o.number) (holds n os) h in rw p.0 (omega (arith, count_none n os p.1))
+
 pub others : (n : ℕ) (os : List Order) → holds n os ≡ false → AllByRecursion (λ o. o.number ≡ n → ⊥) os
 others n [] h = tt
 others n (o ∷ os) h =

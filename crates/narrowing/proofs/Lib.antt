@@ -12,6 +12,7 @@ pub mod Missing
 pub mod Weighed
 pub mod Replies
 pub mod Judged
+pub mod Accepted
 -- The need from the right, tight runs, and the narrowing
 pub mod Backward
 pub mod TightEnds

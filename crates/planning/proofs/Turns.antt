@@ -1,6 +1,5 @@
 -- The turns of the loop, from what a narrowing of bare windows leaves.
 use Rattle.std.proofs.Common.{◌≡◌, ℕ, suc, ◌<◌, ◌≤◌, List, [], ◌∷◌, map, length, get_or, set, Some, None, Ok, Err, sym, refl, ap, ◌∙◌, subst, arith}
-use Rattle.std.specs.Option.{option_map}
 use Rattle.std.specs.Result.{result_ok}
 use Rattle.std.proofs.lemmas.List.{length-map, map-set, get_or-map}
 use Rattle.plans.specs.Plans.{Window, Pair, Plan}
@@ -13,7 +12,6 @@ use Rattle.records.specs.Checks.{Outcome, checked}
 use Rattle.narrowing.specs.Verdict.{verdict_of}
 use Rattle.narrowing.specs.Narrow.{narrow_of}
 use Rattle.records.specs.Bare.{bare}
-use Rattle.planning.specs.Planned.{as_days}
 use Rattle.planning.specs.Closed.{first_of, Closed}
 use Rattle.planning.proofs.Accepting.{some_plan, no_plan, accepted, spans_narrowed}
 use Rattle.planning.proofs.Narrower.{narrowed_first}
@@ -31,13 +29,13 @@ ok_from (Err fault) e = let z : ◌≡◌ {A = ℕ} 0 1 = cc in absurd (omega ar
 -- a narrowing, with marks enough
 module _ (k : ℕ) (pairs : List Pair) (bs after : List Bare) (n : ℕ) (marks : List ℕ) (r : Outcome) (ok : checked k pairs (map span_of bs) (length pairs) ≡ Ok tt)
     (enough : length pairs ≤ n) (is : r ≡ verdict_of k pairs (map span_of bs) n marks) where
-  refused : (fault : NarrowingFault) → r ≡ Err fault → None ≡ option_map as_days (first_plan k pairs (map span_of bs))
-  refused fault e = ap (option_map as_days) (sym ((first_leads k pairs (map span_of bs)).1.1 (no_plan k pairs (map span_of bs) n marks r ok enough is fault e)))
+  refused : (fault : NarrowingFault) → r ≡ Err fault → None ≡ first_plan k pairs (map span_of bs)
+  refused fault e = sym ((first_leads k pairs (map span_of bs)).1.1 (no_plan k pairs (map span_of bs) n marks r ok enough is fault e))
 
-  pub no_first : None ≡ result_ok r → None ≡ option_map as_days (first_plan k pairs (map span_of bs))
+  pub no_first : None ≡ result_ok r → None ≡ first_plan k pairs (map span_of bs)
   no_first e = go r refl e
     where
-      go : (o : Outcome) → r ≡ o → None ≡ result_ok o → None ≡ option_map as_days (first_plan k pairs (map span_of bs))
+      go : (o : Outcome) → r ≡ o → None ≡ result_ok o → None ≡ first_plan k pairs (map span_of bs)
       go (Ok _) e none = let z : ◌≡◌ {A = ℕ} 0 1 = cc in absurd (omega arith)
       go (Err fault) e none = refused fault e
 
@@ -98,6 +96,6 @@ first_days (b ∷ bs) = ap (λ l. b.first ∷ l) (first_days bs)
 
 -- after the last turn
 pub ended : (k : ℕ) (pairs : List Pair) (n : ℕ) (bs : List Bare) → Closed k pairs n (map span_of bs) → n ≡ length bs
-    → Some (as_days (map first_of bs)) ≡ option_map as_days (first_plan k pairs (map span_of bs))
+    → Some (map first_of bs) ≡ first_plan k pairs (map span_of bs)
 ended k pairs n bs C e =
-    ap (λ ts. Some (as_days ts)) (sym (first_days bs)) ∙ ap (option_map as_days) (sym (all_closed k pairs n (map span_of bs) C (e ∙ sym (length-map bs span_of))))
+    ap (λ ts. Some ts) (sym (first_days bs)) ∙ sym (all_closed k pairs n (map span_of bs) C (e ∙ sym (length-map bs span_of)))

@@ -5,7 +5,7 @@ ghost use Rattle.std.specs.Option.{option_map};
 ghost use Rattle.plans.specs.Narrowing.{first_plan};
 ghost use Rattle.records.specs.Bare.{span_of};
 ghost use Rattle.records.specs.Checks.{checked};
-ghost use Rattle.planning.specs.Planned.{as_days};
+ghost use Rattle.lists.specs.Fronts.{items};
 ghost use Rattle.planning.specs.Closed.{Closed, first_of};
 
 use crate::Days;
@@ -36,11 +36,11 @@ fn close(first: u16, pairs: &[(u16, u16)], windows: &mut [Window], place: usize)
 // The first day of each window.
 fn first_days(windows: &[Window]) -> Days
     requires { length windows.now ≤ 512 }
-    ensures { result.items ≡ map first_of windows.now }
+    ensures { items result ≡ map first_of windows.now }
 {
     let mut days = Days::new();
     for window in windows {
-        days.push(window.first);
+        days.push(window.first).unwrap();
     }
     days
 }
@@ -48,7 +48,7 @@ fn first_days(windows: &[Window]) -> Days
 // The first plan of windows that have passed the checks.
 pub fn plan_windows(first: u16, pairs: &[(u16, u16)], windows: &mut [Window]) -> Option<Days>
     requires { checked first pairs.now (map span_of windows.old) (length pairs.now) ≡ Ok tt }
-    ensures { result ≡ option_map as_days (first_plan first pairs.now (map span_of windows.old)) }
+    ensures { option_map items result ≡ first_plan first pairs.now (map span_of windows.old) }
 {
     let mut marks = [0u8; MOST_DAYS];
     narrow(first, pairs, windows, &mut marks).ok()?;

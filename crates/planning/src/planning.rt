@@ -1,14 +1,15 @@
 ghost use Rattle.std.specs.Prelude.{◌≡◌, ◌≤◌, map, length};
 ghost use Rattle.records.specs.Bare.{bare};
-ghost use Rattle.planning.specs.Planned.{planned_of, PlannedMeans};
+ghost use Rattle.planning.specs.Planned.{told_plan, planned_of, PlannedMeans};
 
 use crate::closing::plan_windows;
 use arrayvec::ArrayVec;
+use lists::Front;
 use records::limits::MOST_RECORDS;
 use records::{NarrowingFault, Record, Window, check};
 
 // A day for each record.
-pub type Days = ArrayVec<u16, MOST_RECORDS>;
+pub type Days = Front<MOST_RECORDS>;
 
 // The windows of the records, as a new list. (`copy_windows` of records writes the front of a list that is there, and leaves the rest.)
 fn windows_of<R: Record>(records: &[R]) -> ArrayVec<Window, MOST_RECORDS>
@@ -28,8 +29,8 @@ pub fn first_plan<R: Record>(
     pairs: &[(u16, u16)],
     records: &[R],
 ) -> Result<Option<Days>, NarrowingFault>
-    ensures answer { result ≡ planned_of first pairs.now (map R.span records.now) }
-    ensures means { PlannedMeans first pairs.now (map R.span records.now) result }
+    ensures answer { told_plan result ≡ planned_of first pairs.now (map R.span records.now) }
+    ensures means { PlannedMeans first pairs.now (map R.span records.now) (told_plan result) }
 {
     check(first, pairs, records, pairs.len())?;
     let mut windows = windows_of(records);

@@ -1,7 +1,7 @@
 -- The first piece of some bytes, and the pieces after it.
-use Rattle.std.proofs.Common.{◌≡◌, ℕ, suc, ◌+◌, ◌<◌, ◌≤◌, Bool, true, false, cond, eqb, leb, ltb, List, [], ◌∷◌, map, length, take, drop, sym, refl, ap, ◌∙◌, ⊎_elim, arith}
+use Rattle.std.proofs.Common.{count_by, ◌≡◌, ℕ, suc, ◌+◌, ◌<◌, ◌≤◌, Bool, true, false, cond, eqb, leb, ltb, List, [], ◌∷◌, map, length, take, drop, sym, refl, ap, ◌∙◌, ⊎_elim, arith}
 use Rattle.std.proofs.lemmas.List.{take_all, drop_all, drop-drop, length-drop, length-take-le}
-use Rattle.std.proofs.lemmas.List.Sums.{prefix_len-le-length, fails_before_first, count_by-le-length}
+use Rattle.std.proofs.lemmas.List.Sums.{sum_by-cons, prefix_len-le-length, fails_before_first, count_by-le-length}
 use Rattle.std.proofs.lemmas.List.Splits.{slice_split_first, slice_split_none, length-slice_split}
 use Rattle.std.proofs.lemmas.Bool.{cond-true, cond-false, lt-ltb, le-ltb, le-leb, lt-leb, cases_lt}
 use Rattle.reading.specs.Pieces.{pieces, unless_empty, unended, lines, parts, before, piece_at}
@@ -83,17 +83,34 @@ words_at l p f h is =
         ∙ sym (cond-false _ _ _ (lt-leb q (length l) (omega (arith, long, length-drop p l)))))
         (cases_lt n (length (drop p l)))
 
+-- one piece more for each byte that ends one
+pub pieces_more : (e b : ℕ) (bs : List ℕ) → length (pieces e (b ∷ bs)) ≡ cond (eqb b e) (suc (length (pieces e bs))) (length (pieces e bs))
+pieces_more e b bs =
+    let ends = λ (x : ℕ). eqb x e in
+    let n = length-slice_split ends bs in
+    length-slice_split ends (b ∷ bs)
+    ∙ ap (λ k. k + 1) (sum_by-cons (λ y. cond (ends y) 1 0) b bs)
+    ∙ by (eqb b e) (count_by ends bs) n
+  where
+    by : (t : Bool) (k : ℕ) → length (pieces e bs) ≡ k + 1 → (cond t 1 0 + k) + 1 ≡ cond t (suc (length (pieces e bs))) (length (pieces e bs))
+    by true k h = omega (arith, h)
+    by false k h = omega (arith, h)
+
+pub pieces_few : (e : ℕ) (s : List ℕ) → length (pieces e s) ≤ suc (length s)
+pieces_few e s = let ends = λ (b : ℕ). eqb b e in omega (arith, length-slice_split ends s, count_by-le-length ends s)
+
+pub length_columns : (c : ℕ) (ps : List (List ℕ)) → length (map word (columns c ps)) ≡ length ps
+length_columns c [] = refl
+length_columns c (p ∷ ps) = ap suc (length_columns (c + length p + 1) ps)
+
+-- as many fields as parts, where the place is not past the end of the line
+pub length_words : (l : List ℕ) (p : ℕ) → p ≤ length l → length (words_from l p) ≡ length (parts (drop p l))
+length_words l p h = ap length (cond-true _ _ _ (le-leb p (length l) h)) ∙ length_columns (p + 1) (parts (drop p l))
+
 -- there are no more fields than bytes and one
 pub fields_few : (l : List ℕ) (p : ℕ) → length (words_from l p) ≤ length l + 1
 fields_few l p = by (leb p (length l))
   where
-    length_columns : (c : ℕ) (ps : List (List ℕ)) → length (map word (columns c ps)) ≡ length ps
-    length_columns c [] = refl
-    length_columns c (p ∷ ps) = ap suc (length_columns (c + length p + 1) ps)
-
-    parts_few : (s : List ℕ) → length (parts s) ≤ length s + 1
-    parts_few s = let space = λ (b : ℕ). eqb b 32 in omega (arith, length-slice_split space s, count_by-le-length space s)
-
     by : (t : Bool) → length (cond t (map word (columns (p + 1) (parts (drop p l)))) []) ≤ length l + 1
-    by true = omega (arith, length_columns (p + 1) (parts (drop p l)), parts_few (drop p l), length-drop p l)
+    by true = omega (arith, length_columns (p + 1) (parts (drop p l)), pieces_few 32 (drop p l), length-drop p l)
     by false = omega arith

@@ -1,3 +1,4 @@
 mod Cuts
 mod Readers
+pub mod Lengths
 pub mod Decimals

@@ -1,8 +1,9 @@
 -- What the readers and their results stand for.
 use Rattle.std.specs.Prelude.{ℕ, ◌+◌, ◌-◌, cond, List, [], map, length, drop, nat_le}
 use Rattle.std.specs.Borrow.{Bor}
-use Rattle.arrayvec.specs.ArrayVec.{ArrayVec}
 use Rattle.reading.specs.declared.reader.Lines.{Lines}
+use Rattle.lists.specs.declared.front.Front.{Front}
+use Rattle.lists.specs.Fronts.{items}
 use Rattle.reading.specs.declared.words.Field.{Field}
 use Rattle.reading.specs.declared.words.Field.TheVariants.{Letter, Number, Bad}
 use Rattle.reading.specs.declared.words.Fields.{Fields}
@@ -34,5 +35,5 @@ abbrev pub fields_left : Fields → List Word
 fields_left r = words_from r.line.now r.place
 
 -- the numbers of a line
-abbrev pub numbers_of : ArrayVec ℕ → List ℕ
-numbers_of n = n.items
+abbrev pub numbers_of : Front 200 → List ℕ
+numbers_of n = items n

@@ -4,10 +4,10 @@ ghost use Rattle.reading.specs.Told.{fields_left, numbers_of};
 ghost use Rattle.reading.specs.Words.{headed, values, fits, fitting};
 
 use crate::words::{Count, Field, Fields, LINE_BYTES, Unfit, heading};
-use arrayvec::ArrayVec;
+use lists::Front;
 
 // The numbers of a line.
-pub type Numbers = ArrayVec<u16, LINE_BYTES>;
+pub type Numbers = Front<LINE_BYTES>;
 
 // The numbers of the fields that are left, or the column of the first field that is none.
 fn numbers(fields: Fields) -> Result<Numbers, Unfit>
@@ -18,7 +18,7 @@ fn numbers(fields: Fields) -> Result<Numbers, Unfit>
     let mut numbers = Numbers::new();
     for field in fields {
         match field {
-            Field::Number { number, .. } => numbers.push(number),
+            Field::Number { number, .. } => numbers.push(number).unwrap(),
             Field::Letter { column, .. } | Field::Bad { column, .. } => {
                 return Err(Unfit::BadField(column));
             }
@@ -31,6 +31,7 @@ fn numbers(fields: Fields) -> Result<Numbers, Unfit>
 pub fn line_numbers(line: &[u8], wanted: u8, count: Count) -> Result<Numbers, Unfit>
     ensures value { map_ok numbers_of result ≡ fitting wanted (fits count) (headed line.now) }
     ensures count { IfOk result (λ n. fits count (length (numbers_of n)) ≡ true) }
+    ensures few { IfOk result (λ n. length (numbers_of n) ≤ 200) }
 {
     let (letter, fields) = heading(line).ok_or(Unfit::BadLine)?;
     if letter != wanted || !count.allows(fields.left()) {

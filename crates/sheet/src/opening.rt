@@ -41,7 +41,7 @@ pub fn week(line: &[u8]) -> Result<Weekly, SheetFault>
     ensures { map_ok week_of result ≡ week_line line.now }
 {
     let numbers = line_numbers(line, b'W', Count::Exactly(15))?;
-    week_of_numbers(&numbers)
+    week_of_numbers(numbers.as_slice())
 }
 
 // The week of fifteen numbers: the weekday of day 0 and the seven pairs.
@@ -62,7 +62,7 @@ pub fn closing(line: &[u8], week: Weekly) -> Result<Closing<Weekly>, SheetFault>
     ensures week { IfOk result (λ c. below_of c ≡ week) }
 {
     let numbers = line_numbers(line, b'X', Count::Even)?;
-    let runs = pairs_of(&numbers);
+    let runs = pairs_of(numbers.as_slice());
     Closing::<Weekly>::check(&runs)?;
     Ok(Closing::new(week, &runs))
 }

@@ -1,5 +1,5 @@
 -- From the checks and the weighing to the answer of a call that takes no marks.
-use Rattle.std.proofs.Common.{◌≡◌, ℕ, ◌+◌, ◌<◌, ◌≤◌, true, false, cond, ltb, leb, List, [], ◌∷◌, length, Some, None, Ok, Err, Option, Result, sym, refl, ap, ◌∙◌, subst, arith}
+use Rattle.std.proofs.Common.{◌≡◌, ℕ, ◌+◌, ◌<◌, ◌≤◌, Bool, true, false, cond, ltb, leb, List, [], ◌∷◌, length, Some, None, Ok, Err, Option, Result, sym, refl, ap, ◌∙◌, subst, arith}
 use Rattle.std.proofs.lemmas.List.{length-map}
 use Rattle.std.proofs.lemmas.Bool.{both_ways, or_parts, not-false, leb-false, ltb-false, le-leb, lt-ltb}
 use Rattle.std.specs.Option.{option_map}
@@ -122,3 +122,17 @@ window_held L n e = not-false (holds n L.held) (clear (checks L (Call.window n))
 
 pub probe_held : (L : Ledger) (n d : ℕ) → Passes L (Call.probe n d) → (holds n L.held ≡ true) × (bad_day L d ≡ false)
 probe_held L n d e = let q = clear (checks L (Call.probe n d)) e in (not-false (holds n L.held) q.0, q.1.0)
+
+-- What is asked of a held order passes.
+pub window_passes : (L : Ledger) (n : ℕ) → holds n L.held ≡ true → Passes L (Call.window n)
+window_passes L n h = rw h
+
+held_there : (n i : ℕ) (os : List Order) → Some i ≡ place_in n os → holds n os ≡ true
+held_there n i os e = go (holds n os) e
+  where
+    go : (b : Bool) → Some i ≡ cond b (Some (place n os)) None → b ≡ true
+    go true e = refl
+    go false e = let z : ◌≡◌ {A = ℕ} 0 1 = cc in absurd (omega arith)
+
+pub probe_passes : (L : Ledger) (n i d : ℕ) → Some i ≡ place_in n L.held → bad_day L d ≡ false → Passes L (Call.probe n d)
+probe_passes L n i d f g = rw (held_there n i L.held f, g)

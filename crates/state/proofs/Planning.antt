@@ -1,7 +1,6 @@
 -- The first plan of a ledger that has one.
 use Rattle.std.proofs.Common.{◌≡◌, ℕ, List, [], length, take, Some, None, Ok, Option, sym, refl, ap, ◌∙◌, subst, arith}
 use Rattle.std.proofs.lemmas.List.{length-map, take_all}
-use Rattle.std.specs.Option.{option_map}
 use Rattle.plans.specs.Plans.{Pair}
 use Rattle.plans.specs.Narrowing.{first_plan}
 use Rattle.plans.specs.Replies.{Reply as Weight, Reply.accepted, Reply.overfull, Reply.short}
@@ -10,7 +9,7 @@ use Rattle.plans.proofs.First.{first_leads}
 use Rattle.records.specs.Checks.{checked}
 use Rattle.records.proofs.Checked.{passed}
 use Rattle.narrowing.proofs.Meaning.{assigned_long}
-use Rattle.planning.specs.Planned.{Planned as Answer, as_days, planned_of}
+use Rattle.planning.specs.Planned.{Planned as Answer, planned_of}
 use Rattle.ledger.specs.Ledger.{Calendar, Ledger, begun_at, pairs, windows, weigh, Fits, plan_of, days_in}
 use Rattle.ledger.proofs.Days.{pairs_long}
 use Rattle.state.specs.Weights.{quiet}
@@ -53,9 +52,9 @@ module _ (c : Calendar) (L : Ledger) (about : ℕ) (pass : checked L.today (pair
   planned = leads first refl
 
   -- and it is what is answered.
-  pub days_planned : (ps : List Pair) → ps ≡ pairs c L → (r : Answer) → r ≡ planned_of L.today ps (windows L) → r ≡ Ok (Some (as_days (plan_of c L)))
+  pub days_planned : (ps : List Pair) → ps ≡ pairs c L → (r : Answer) → r ≡ planned_of L.today ps (windows L) → r ≡ Ok (Some (plan_of c L))
   days_planned ps g r f =
-      f ∙ ap (λ x. planned_of L.today x (windows L)) g ∙ rw over (ap (λ o. Ok (option_map as_days o)) planned.1 ∙ ap (λ o. Ok (Some (as_days (days_in o)))) (sym planned.1))
+      f ∙ ap (λ x. planned_of L.today x (windows L)) g ∙ rw over (ap (λ o. Ok o) planned.1 ∙ ap (λ o. Ok (Some (days_in o))) (sym planned.1))
 
   pub plan_fits : Fits c L (plan_of c L)
   plan_fits = subst (λ o. Fits c L (days_in o)) (sym planned.1) planned.2

@@ -1,6 +1,6 @@
 -- What `map_err` makes of an outcome: a refusal with what it is about.
-use Rattle.std.proofs.Common.{◌≡◌, ℕ, Ok, Err, Option, None, Result, sym, refl, ap, ◌∙◌}
-use Rattle.std.specs.Result.{MatchResult, IsErrAnd, is_ok}
+use Rattle.std.proofs.Common.{◌≡◌, ℕ, Ok, Err, Option, None, Result, sym, refl, ap, ◌∙◌, subst}
+use Rattle.std.specs.Result.{MatchResult, IsErrAnd, IfOk, is_ok}
 use Rattle.std.proofs.lemmas.Result.{err_from_is_err_and}
 use Rattle.plans.specs.Replies.{Reply as Weight, Reply.accepted, Reply.overfull, Reply.short}
 use Rattle.records.specs.declared.fault.NarrowingFault.{NarrowingFault}
@@ -34,9 +34,14 @@ heard about W r e h q = blames Engine about r h q ∙ ap (blamed Engine about) e
     go (short windows fewests) = refl
 
 -- The checks that were passed.
-pub no_fault : (r : Result (Unit {0}) Check) {m : Result (Unit {0}) BookFault} {o : Option ℕ} → failed r ≡ o → is_ok m ≡ is_ok r → m ≡ Ok tt → o ≡ None
+pub no_fault : {A : Type 0} {a : A} (r : Result A Check) {m : Result A BookFault} {o : Option ℕ} → failed r ≡ o → is_ok m ≡ is_ok r → m ≡ Ok a → o ≡ None
 no_fault (Ok _) e v f = sym e
 no_fault (Err check) e v f = cc (ap is_ok f)
+
+-- What the check found of the value that is handed on.
+pub held_on : {A E : Type 0} (P : A → Type 0) (Q : E → Type 0) (a : A) (r : Result A E) (m : Result A BookFault) → IfOk r P → MatchResult r (λ x. m ≡ Ok x) Q → is_ok m ≡ is_ok r → m ≡ Ok a → P a
+held_on P Q a (Ok x) m p h v f = let same : x ≡ a = cc (h, f) in subst P same p
+held_on P Q a (Err e) m p h v f = cc (ap is_ok f)
 
 pub was_ok : {E : Type 0} (r : Result (Unit {0}) E) {m : Result (Unit {0}) BookFault} → is_ok m ≡ is_ok r → m ≡ Ok tt → r ≡ Ok tt
 was_ok (Ok u) v f = refl

@@ -12,12 +12,12 @@ use Rattle.faults.specs.declared.Cause.TheVariants.{Failed, Engine}
 use Rattle.faults.specs.declared.BookFault.{BookFault}
 
 -- The number of the first check that failed.
-abbrev pub failed : Result (Unit {0}) Check → Option ℕ
+abbrev pub failed : {A : Type 0} → Result A Check → Option ℕ
 failed (Ok _) = None
 failed (Err check) = Some (check_number check)
 
 -- The outcome of the checks of a call: the first that comes.
-abbrev pub Checked : Ledger → Call → Result (Unit {0}) Check → Type 0
+abbrev pub Checked : {A : Type 0} → Ledger → Call → Result A Check → Type 0
 Checked L k r = failed r ≡ first_fault (checks L k)
 
 -- A refusal by its number and what it is about.

@@ -4,6 +4,7 @@ use Rattle.plans.specs.Narrowing.{narrowed}
 use Rattle.plans.specs.Replies.{Reply as Weight, Reply.accepted, Reply.overfull, Reply.short}
 use Rattle.records.specs.declared.fault.NarrowingFault.TheVariants.{Overfull, Short}
 use Rattle.narrowing.specs.Verdict.{Marked}
+use Rattle.lists.specs.Fronts.{items}
 use Rattle.planning.specs.Planned.{Days}
 use Rattle.ledger.specs.Ledger.{Calendar, Ledger, pairs, windows, weigh, Fits, plan_of}
 use Rattle.ledger.specs.Replies.{Reply, Reply.refused}
@@ -53,5 +54,5 @@ Told c L (Err fault) = Unit {0}
 
 -- The days of the first plan, which fits.
 abbrev pub Planned : Calendar → Ledger → Result Days BookFault → Type 0
-Planned c L (Ok days) = (days.items ≡ plan_of c L) × Fits c L (plan_of c L)
+Planned c L (Ok days) = (items days ≡ plan_of c L) × Fits c L (plan_of c L)
 Planned c L (Err fault) = Unit {0}

@@ -4,7 +4,7 @@ ghost use Rattle.std.specs.Option.{option_map};
 ghost use Rattle.plans.specs.Narrowing.{window as window_at};
 ghost use Rattle.narrowing.specs.Verdict.{verdict_of, MarksAfter};
 ghost use Rattle.narrowing.specs.Support.{support_of};
-ghost use Rattle.planning.specs.Planned.{planned_of};
+ghost use Rattle.planning.specs.Planned.{told_plan, planned_of};
 ghost use Rattle.orders.specs.Lists.{place_in};
 ghost use Rattle.orders.specs.Tables.{held_in, told_in, begun, told_after};
 
@@ -79,7 +79,7 @@ impl Table {
 
     // The first plan from today on: a day for each order; none where there is no plan.
     pub fn plan(&self, today: u16, pairs: &[(u16, u16)]) -> Result<Option<Days>, NarrowingFault>
-        ensures { result ≡ planned_of today pairs.now (begun today self.now) }
+        ensures { told_plan result ≡ planned_of today pairs.now (begun today self.now) }
     {
         let begun = self.begun_at(today);
         planning::first_plan(today, pairs, begun.as_slice())

@@ -40,10 +40,10 @@ impl State {
     pub fn probe<C: Calendar>(&self, calendar: &C, number: u16, day: u16) -> Result<bool, BookFault>
         ensures { probe_reply result ≡ reply (C.told calendar.now) (ledger_of self.now) (Call.probe number day) [] }
     {
-        self.check_probe(number, day)
+        let place = self
+            .check_probe(number, day)
             .map_err(|check| BookFault::about(number, check))?;
         self.weighed(calendar, number)?;
-        let place = self.table.find(number).unwrap();
         let pairs = self.pairs(calendar);
         Ok(self.table.supports(self.today, &pairs, place, day).unwrap())
     }
@@ -66,7 +66,8 @@ impl State {
         self.check_plan(list.len())
             .map_err(|check| BookFault::about(self.today, check))?;
         let days = self.planned(calendar, self.today)?;
-        list[..days.len()].copy_from_slice(days.as_slice());
+        let days = days.as_slice();
+        list[..days.len()].copy_from_slice(days);
         Ok(days.len())
     }
 }

@@ -1,7 +1,8 @@
 // The checks of each call, in their order. What a call is given they are given side by side, as the rules give it to the call.
-ghost use Rattle.std.specs.Prelude.{◌≡◌, cond, Ok, Err};
+ghost use Rattle.std.specs.Prelude.{◌≡◌, cond, Some, Ok, Err, IfOk};
 ghost use Rattle.ledger.specs.Orders.{holds as holds_number};
 ghost use Rattle.ledger.specs.Calls.{Edit, Call, bad_window, bad_day};
+ghost use Rattle.orders.specs.Lists.{place_in};
 ghost use Rattle.state.specs.Answers.{Checked};
 ghost use Rattle.state.specs.Model.{ledger_of};
 
@@ -93,11 +94,14 @@ impl State {
         refuse_if(!self.holds(number), Check::NumberUnknown)
     }
 
-    pub(crate) fn check_probe(&self, number: u16, day: u16) -> Result<(), Check>
-        ensures { Checked (ledger_of self.now) (Call.probe number day) result }
+    // Passed, the place of the order that is asked about.
+    pub(crate) fn check_probe(&self, number: u16, day: u16) -> Result<usize, Check>
+        ensures checked { Checked (ledger_of self.now) (Call.probe number day) result }
+        ensures place { IfOk result (λ place. Some place ≡ place_in number (ledger_of self.now).held) }
     {
-        refuse_if(!self.holds(number), Check::NumberUnknown)?;
-        refuse_if(self.is_outside(day), Check::DayOutside)
+        let place = self.table.find(number).ok_or(Check::NumberUnknown)?;
+        refuse_if(self.is_outside(day), Check::DayOutside)?;
+        Ok(place)
     }
 
     pub(crate) fn check_plan(&self, room: usize) -> Result<(), Check>

@@ -5,7 +5,7 @@ use Rattle.plans.specs.Plans.{Pair}
 use Rattle.records.specs.declared.record.bare.Window.{Window}
 use Rattle.records.specs.Bare.{span_of}
 use Rattle.records.proofs.Checked.{passed}
-use Rattle.planning.specs.Planned.{as_days}
+use Rattle.lists.specs.Fronts.{items}
 use Rattle.planning.proofs.Turns.{no_first, ok_from, begun, ended}
 use Rattle.planning.proofs.closing.plan_windows.Goals as goal
 
@@ -15,7 +15,7 @@ returns-in_err-ok c =
     let pairs : List Pair = c.args.pairs.now in
     let bs : List Window = c.args.windows.now in
     let few : length pairs ≤ 128 = (passed k pairs (map span_of bs) (length pairs) c.requires).range.few_days in
-    c.from_residual.ensures ∙ no_first k pairs bs bs 128 _ c.narrow.result c.requires few c.narrow.ensures.answer c.in_err-ok.ensures.value
+    ap (option_map items) c.from_residual.ensures ∙ no_first k pairs bs bs 128 _ c.narrow.result c.requires few c.narrow.ensures.answer c.in_err-ok.ensures.value
 
 pub loop-place-init : goal.loop-place-init
 loop-place-init c =
@@ -39,5 +39,5 @@ returns c =
     let few : length pairs ≤ 128 = (passed k pairs (map span_of bs) (length pairs) c.requires).range.few_days in
     let kept = begun k pairs bs c.narrow.new.records 128 _ c.narrow.result c.requires few c.narrow.ensures.answer (ok_from _ c.in_ok-ok.ensures.value) c.narrow.ensures.records in
     let size : c.loop-place.place ≡ length c.loop-place.windows = omega arith in
-    ap (λ ts. Some (as_days ts)) c.first_days.ensures ∙ ended k pairs c.loop-place.place c.loop-place.windows c.loop-place.invariant.0 size
-    ∙ ap (option_map as_days) (c.loop-place.invariant.1 ∙ kept.1)
+    ap (λ ts. Some ts) c.first_days.ensures ∙ ended k pairs c.loop-place.place c.loop-place.windows c.loop-place.invariant.0 size
+    ∙ c.loop-place.invariant.1 ∙ kept.1

@@ -1,6 +1,7 @@
-use Rattle.std.proofs.Common.{ℕ, ◌≤◌, List, ◌++◌, length, drop, sym, refl, ap, ◌∙◌, ap₂, arith, rules}
+use Rattle.std.proofs.Common.{◌≡◌, ℕ, ◌≤◌, List, ◌++◌, length, drop, sym, refl, ap, ◌∙◌, arith, rules}
 use Rattle.std.proofs.lemmas.List.{length-take-le}
 use Rattle.std.proofs.lemmas.Result.{err_from_is_err_and}
+use Rattle.ledger.specs.Ledger.{plan_of}
 use Rattle.ledger.specs.Calls.{Call.plan}
 use Rattle.ledger.specs.Law.{Passes}
 use Rattle.state.specs.Model.{ledger_of}
@@ -28,7 +29,8 @@ slice_bounds-copy_from_slice-end g c =
     let ns = c.args.list.now in
     let pass : Passes L (plan (length ns)) = no_fault c.check_plan.result c.check_plan.ensures c.map_err.ensures.variant c.in_ok-map_err.was in
     let P = c.in_ok-days.ensures.planned in
-    let h : c.len.result ≤ length ns = omega (arith, plan_room L (length ns) pass, c.len.ensures.value, days_long C L c.in_ok-days.days.items P.0 P.1) in
+    let ds : List ℕ = c.as_slice-days.result.now in
+    let h : length ds ≤ length ns = omega (arith, plan_room L (length ns) pass, days_long C L ds (c.as_slice-days.ensures ∙ P.0) P.1) in
     search rules
 
 pub slice_bounds-copy_from_slice-end-2 : goal.slice_bounds-copy_from_slice-end-2
@@ -38,8 +40,9 @@ slice_bounds-copy_from_slice-end-2 g c =
     let ns = c.args.list.now in
     let pass : Passes L (plan (length ns)) = no_fault c.check_plan.result c.check_plan.ensures c.map_err.ensures.variant c.in_ok-map_err.was in
     let P = c.in_ok-days.ensures.planned in
-    let h : c.len.result ≤ length ns = omega (arith, plan_room L (length ns) pass, c.len.ensures.value, days_long C L c.in_ok-days.days.items P.0 P.1) in
-    sym (length-take-le c.len.result ns h)
+    let ds : List ℕ = c.as_slice-days.result.now in
+    let h : length ds ≤ length ns = omega (arith, plan_room L (length ns) pass, days_long C L ds (c.as_slice-days.ensures ∙ P.0) P.1) in
+    sym (length-take-le (length ds) ns h)
 
 pub copy_from_slice-requires : goal.copy_from_slice-requires
 copy_from_slice-requires g c =
@@ -48,8 +51,9 @@ copy_from_slice-requires g c =
     let ns = c.args.list.now in
     let pass : Passes L (plan (length ns)) = no_fault c.check_plan.result c.check_plan.ensures c.map_err.ensures.variant c.in_ok-map_err.was in
     let P = c.in_ok-days.ensures.planned in
-    let h : c.len.result ≤ length ns = omega (arith, plan_room L (length ns) pass, c.len.ensures.value, days_long C L c.in_ok-days.days.items P.0 P.1) in
-    length-take-le c.len.result ns h ∙ c.len.ensures.value ∙ ap length (sym c.as_slice.ensures.value)
+    let ds : List ℕ = c.as_slice-days.result.now in
+    let h : length ds ≤ length ns = omega (arith, plan_room L (length ns) pass, days_long C L ds (c.as_slice-days.ensures ∙ P.0) P.1) in
+    length-take-le (length ds) ns h
 
 pub returns : goal.returns
 returns g c =
@@ -58,5 +62,7 @@ returns g c =
     let ns = c.args.list.now in
     let pass : Passes L (plan (length ns)) = no_fault c.check_plan.result c.check_plan.ensures c.map_err.ensures.variant c.in_ok-map_err.was in
     let D = c.in_ok-days.ensures in
-    plan_lists C L ns _ c.len-2.result (c.len-2.ensures.value ∙ ap length D.planned.0) (ask_told C L (plan (length ns)) refl pass refl D.refusal)
-    (ap₂ (λ (xs : List ℕ) (k : ℕ). xs ++ drop k ns) (c.copy_from_slice.ensures.after ∙ c.as_slice.ensures.value ∙ D.planned.0) (c.len.ensures.value ∙ sym c.len-2.ensures.value))
+    let ds : List ℕ = c.as_slice-days.result.now in
+    let is : ds ≡ plan_of C L = c.as_slice-days.ensures ∙ D.planned.0 in
+    plan_lists C L ns _ (length ds) (ap length is) (ask_told C L (plan (length ns)) refl pass refl D.refusal)
+    (ap (λ xs. xs ++ drop (length ds) ns) (c.copy_from_slice.ensures.after ∙ is))

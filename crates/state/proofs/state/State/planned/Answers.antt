@@ -1,7 +1,9 @@
-use Rattle.std.proofs.Common.{◌≡◌, Some, is_some, ap, arith}
+use Rattle.std.proofs.Common.{◌≡◌, ◌∙◌, Some, is_some, ap, arith}
 use Rattle.std.specs.Result.{is_ok}
 use Rattle.std.proofs.lemmas.Result.{err_from_is_err_and}
-use Rattle.planning.specs.Planned.{as_days}
+use Rattle.lists.specs.Fronts.{items}
+use Rattle.planning.specs.Planned.{told_plan}
+use Rattle.planning.proofs.Answered.{handed_out}
 use Rattle.ledger.specs.Ledger.{plan_of}
 use Rattle.state.specs.Model.{ledger_of}
 use Rattle.state.proofs.Nearness.{weighable}
@@ -18,15 +20,16 @@ unwrap-plan-requires g c =
     let s = c.args.self.now in
     let C = g.C.Calendar.told c.args.calendar.now in
     let pass = weighable C s 56 (g.C.Calendar.sound c.args.calendar.now) (omega arith) in
-    ap is_ok (days_planned C (ledger_of s) c.args.subject pass c.in_ok-weighed.ensures.refusal c.pairs-pairs.result c.pairs-pairs.ensures c.plan.result c.plan.ensures)
+    let d = handed_out c.plan.result (plan_of C (ledger_of s)) (days_planned C (ledger_of s) c.args.subject pass c.in_ok-weighed.ensures.refusal c.pairs-pairs.result c.pairs-pairs.ensures (told_plan c.plan.result) c.plan.ensures) in
+    ap is_ok d.1
 
 pub unwrap-requires : goal.unwrap-requires
 unwrap-requires g c =
     let s = c.args.self.now in
     let C = g.C.Calendar.told c.args.calendar.now in
     let pass = weighable C s 56 (g.C.Calendar.sound c.args.calendar.now) (omega arith) in
-    let d = days_planned C (ledger_of s) c.args.subject pass c.in_ok-weighed.ensures.refusal c.pairs-pairs.result c.pairs-pairs.ensures c.plan.result c.plan.ensures in
-    let o : c.unwrap-plan.result ≡ Some (as_days (plan_of C (ledger_of s))) = cc (d, c.unwrap-plan.ensures) in
+    let d = handed_out c.plan.result (plan_of C (ledger_of s)) (days_planned C (ledger_of s) c.args.subject pass c.in_ok-weighed.ensures.refusal c.pairs-pairs.result c.pairs-pairs.ensures (told_plan c.plan.result) c.plan.ensures) in
+    let o : c.unwrap-plan.result ≡ Some d.0 = cc (d.1, c.unwrap-plan.ensures) in
     ap is_some o
 
 pub returns-clause-planned : goal.returns-clause-planned
@@ -36,6 +39,6 @@ returns-clause-planned g c =
     let L = ledger_of s in
     let pass = weighable C s 56 (g.C.Calendar.sound c.args.calendar.now) (omega arith) in
     let q = c.in_ok-weighed.ensures.refusal in
-    let d = days_planned C L c.args.subject pass q c.pairs-pairs.result c.pairs-pairs.ensures c.plan.result c.plan.ensures in
-    let t : c.unwrap.result ≡ as_days (plan_of C L) = cc (d, c.unwrap-plan.ensures, c.unwrap.ensures) in
-    (ap (λ d. d.items) t, plan_fits C L c.args.subject pass q)
+    let d = handed_out c.plan.result (plan_of C L) (days_planned C L c.args.subject pass q c.pairs-pairs.result c.pairs-pairs.ensures (told_plan c.plan.result) c.plan.ensures) in
+    let t : c.unwrap.result ≡ d.0 = cc (d.1, c.unwrap-plan.ensures, c.unwrap.ensures) in
+    (ap items t ∙ d.2, plan_fits C L c.args.subject pass q)
